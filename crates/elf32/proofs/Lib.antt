@@ -1,0 +1,5 @@
+pub mod Addresses
+pub mod Pairs
+pub mod Kept
+pub mod Order
+pub mod Accepted

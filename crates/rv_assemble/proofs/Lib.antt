@@ -1,0 +1,5 @@
+pub mod Appends
+pub mod Sums
+pub mod Readback
+pub mod Ready
+pub mod Texts
