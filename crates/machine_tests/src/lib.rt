@@ -1,0 +1,9 @@
+//! Runs of small programs on the machine.
+#![tactic(auto)]
+
+#[cfg(test)]
+mod files;
+#[cfg(test)]
+mod programs;
+#[cfg(test)]
+mod tests;

@@ -1,0 +1,14 @@
+//! A machine that runs programs of RV32IM with Zifencei, in the RISC-V unprivileged ISA's version
+//! 20191213, with five calls of the environment: read, write, exit and exit_group, and the answer to
+//! any other.
+//!
+//! [`trace_of`] gives what a program's run on an input tells. [`Machine`] goes step by step and takes
+//! no memory after its start.
+#![tactic(auto)]
+
+mod access;
+mod machine;
+mod trace;
+
+pub use machine::{Machine, Stepped};
+pub use trace::{Run, trace_of};
