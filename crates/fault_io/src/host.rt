@@ -1,0 +1,135 @@
+ghost use Rattle.std.specs.Prelude.{◌≡◌, ◌≢◌, ◌^◌, ◌<◌, ◌≤◌, None, Some, length, take, IfOk, IfSome, OnOk, OnErr};
+ghost use Rattle.std.specs.Io.KnownBytes.{Appends};
+ghost use Rattle.fault_io.specs.Faults.{raised};
+ghost use Rattle.fault_io.specs.Files.{answer_for, IsWithin};
+
+use crate::{Bytes, Failed, FetchFault, Fetched, Folder, Sink};
+use std::alloc::Global;
+use std::fs::{self, OpenFile};
+use std::io::{Read, Write};
+use std::marker::Model;
+use std::rt::Files;
+
+/// The files of the system, of which nothing is known. A contract sees the count of faults.
+#[derive(Drop)]
+pub struct HostFolder<R: Files + Drop> {
+    rt: R,
+    failed: u64,
+}
+
+impl<R: Files + Drop> Model for HostFolder<R> {
+    ghost use Rattle.std.specs.Prelude.{ℕ};
+
+    ghost Value = { ℕ };
+
+    ghost view = { λ folder. folder.failed };
+}
+
+impl<R: Files + Drop> HostFolder<R> {
+    /// The files that this runtime reaches, with no fault yet.
+    pub fn new(rt: R) -> Self
+        ensures { result ≡ 0 }
+    {
+        HostFolder { rt, failed: 0 }
+    }
+}
+
+impl<R: Files + Drop> Folder for HostFolder<R> {
+    ghost files = { λ _. None };
+
+    ghost faults = { λ count. count };
+
+    /// Opens the file and reads it to its end, or until it is longer than `limit`. A file that
+    /// can't be opened and a read that fails are one fault.
+    fn fetch(&mut self, alloc: Global, name: &str, limit: u32) -> Result<Fetched, FetchFault>
+        ensures within { IfOk result (IsWithin limit) }
+        ensures untold { result ≢ Ok Fetched.Missing }
+        ensures failed { result ≡ Err FetchFault.Failed → self.new ≡ raised self.old }
+        ensures quiet { result ≢ Err FetchFault.Failed → self.new ≡ self.old }
+        ensures counts { self.old ≤ self.new }
+    {
+        let fetched = match fs::open(&self.rt, name) {
+            Ok(mut file) => read_up_to(alloc, &mut file, limit),
+            Err(_) => Err(FetchFault::Failed),
+        };
+        if let Err(FetchFault::Failed) = &fetched {
+            self.failed = self.failed.saturating_add(1);
+        }
+        fetched
+    }
+}
+
+/// What a reader has left, in at most `limit + 1` reads. A read that gives no bytes is the end.
+fn read_up_to<R: Read>(alloc: Global, reader: &mut R, limit: u32) -> Result<Fetched, FetchFault>
+    ensures told { IfSome (R.remaining reader.old) (λ left. IfOk result (λ answer. answer ≡ answer_for (Some left) limit)) }
+    ensures within { IfOk result (IsWithin limit) }
+    ensures found { result ≢ Ok Fetched.Missing }
+{
+    let most = limit as usize;
+    let mut bytes = Vec::new(alloc);
+    let mut buffer = [0u8; 4096];
+    while bytes.len() <= most {
+        let room = (most + 1 - bytes.len()).min(4096);
+        let Ok(count) = reader.read(&mut buffer[..room]) else {
+            return Err(FetchFault::Failed);
+        };
+        if count == 0 {
+            return Ok(Fetched::Whole(Bytes::from_vec(bytes)));
+        }
+        bytes.extend_from_slice(&buffer[..count])?;
+    }
+    Ok(Fetched::TooLong)
+}
+
+/// A stream of the system, flushed at each piece. A contract sees the count of faults, and the
+/// bytes written where the stream itself tells them, as one in memory does. As a sink it tells
+/// nothing.
+#[derive(Drop)]
+pub struct HostSink<W: Write + Drop> {
+    stream: W,
+    failed: u64,
+}
+
+impl<W: Write + Drop> Model for HostSink<W> {
+    ghost use Rattle.fault_io.specs.Sinks.{StreamState};
+
+    ghost Value = { StreamState };
+
+    ghost view = { λ sink. record { faults = sink.failed; written = W.contents sink.stream } };
+}
+
+impl<W: Write + Drop> HostSink<W> {
+    /// A sink over this stream, with no fault yet.
+    pub fn new(stream: W) -> Self
+        ensures { result ≡ record { faults = 0; written = W.contents stream } }
+    {
+        HostSink { stream, failed: 0 }
+    }
+}
+
+impl<W: Write + Drop> Sink for HostSink<W> {
+    ghost holds = { λ _. None };
+
+    ghost faults = { λ sink. sink.faults };
+
+    /// Writes once and flushes. A write that takes nothing, and a write or a flush that fails, is
+    /// a fault. Where the flush fails, bytes of the piece may stand in the stream all the same.
+    fn put(&mut self, bytes: &[u8]) -> Result<u32, Failed>
+        requires not_empty { 0 < length bytes.now }
+        requires fits { length bytes.now < 2 ^ 32 }
+        ensures written { IfOk result (λ k. Appends self.old.written self.new.written (take k bytes.now)) }
+        ensures some { IfOk result (λ k. 0 < k) }
+        ensures within { IfOk result (λ k. k ≤ length bytes.now) }
+        ensures failed { OnErr result (self.new.faults ≡ raised self.old.faults) }
+        ensures quiet { OnOk result (self.new.faults ≡ self.old.faults) }
+        ensures counts { self.old.faults ≤ self.new.faults }
+    {
+        match self.stream.write(bytes) {
+            Ok(count) if count > 0 && self.stream.flush().is_ok() => Ok(count as u32),
+            _ => {
+                self.failed = self.failed.saturating_add(1);
+                Err(Failed)
+            }
+        }
+    }
+}

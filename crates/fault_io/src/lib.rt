@@ -1,0 +1,20 @@
+//! What a program reads from and writes to, either of which may fail.
+//!
+//! A [`Folder`] has files by name and a [`Sink`] takes bytes piece by piece. Each counts its
+//! faults, so a contract can say that a call failed only where a read or a write did. The forms in
+//! memory, [`SteadyFolder`] and [`MemSink`], tell what they hold. The forms of the system,
+//! [`HostFolder`] and [`HostSink`], tell nothing.
+#![tactic(auto)]
+
+mod bytes;
+mod folder;
+mod host;
+mod sink;
+
+pub use bytes::Bytes;
+pub use folder::{FetchFault, Fetched, FileList, Folder, NamedFile, SteadyFolder};
+pub use host::{HostFolder, HostSink};
+pub use sink::{Failed, MemSink, Sink};
+
+#[cfg(test)]
+mod tests;

@@ -1,0 +1,11 @@
+pub mod Bound
+pub mod Order
+pub mod ByteByByte
+pub mod Parts
+pub mod Inputs
+pub mod Ordered
+pub mod InOrder
+pub mod Exists
+pub mod Freed
+pub mod Narrow
+pub mod Everything
