@@ -1,0 +1,5 @@
+pub mod Trees
+pub mod Mask
+pub mod Nodes
+pub mod Entries
+pub mod Slots

@@ -1,0 +1,4 @@
+pub mod WordLemmas
+pub mod ZeroLemmas
+pub mod SameLemmas
+pub mod PlaceLemmas

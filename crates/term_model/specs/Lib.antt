@@ -1,0 +1,9 @@
+pub mod Tree
+pub mod Value
+pub mod Words
+pub mod Places
+pub mod ZeroBytes
+pub mod Truth
+pub mod Same
+pub mod Order
+pub mod Code
