@@ -1,0 +1,26 @@
+-- A state of the machine on an input is the state of terms, valued under the input.
+use Rattle.std.proofs.Common.{◌≡◌, ℕ, ◌<◌, List, map, Option, Some, None}
+use Rattle.std.specs.FinMap.{get}
+use Rattle.term_model.specs.Tree.{Tree}
+use Rattle.term_model.specs.Value.{val}
+use Rattle.term_model.specs.Words.{AreBytes}
+use Rattle.memory_map.specs.Cells.{Map, Cell}
+use Rattle.rv_machine.specs.State.{State}
+use Rattle.replay_law.specs.Terms.{Terms, reg_term}
+
+-- a cell of the image with another byte
+abbrev pub cell_with : ℕ → Option Cell → Option Cell
+cell_with byte None = None
+cell_with byte (Some cell) = Some (record { byte = byte; rights = cell.rights })
+
+-- registers, memory and input place are those of the terms on an input
+pub record Agrees (image : Map) (terms : Terms) (y : List ℕ) (s : State) : Type 0 where
+  pub registers : s.registers ≡ map (λ t. val t y) terms.registers
+  pub memory : (a : ℕ) → get s.memory a ≡ cell_with (val (terms.bytes a) y) (get image a)
+  pub place : s.place ≡ terms.place
+
+-- the terms are made, and those of memory are bytes
+pub record AreMade (IsMade : Tree → Type 0) (terms : Terms) : Type 0 where
+  pub registers : (r : ℕ) → IsMade (reg_term terms r)
+  pub bytes : (a : ℕ) → IsMade (terms.bytes a)
+  pub small : (a : ℕ) (y : List ℕ) → AreBytes y → val (terms.bytes a) y < 256

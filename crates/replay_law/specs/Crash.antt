@@ -1,0 +1,44 @@
+-- Programs, inputs, and runs that crash; and what each condition of such a run is like.
+use Rattle.std.specs.Prelude.{◌≡◌, ℕ, ◌%◌, List, [], ◌∷◌, true, All, length}
+use Rattle.elf32.specs.Loads.{Program}
+use Rattle.rv_event.specs.declared.event.End.{End}
+use Rattle.rv_event.specs.declared.event.End.TheVariants as ends
+use Rattle.rv_event.specs.declared.transcript.Transcript.{Transcript}
+use Rattle.term_model.specs.Tree.{Tree}
+use Rattle.term_model.specs.Words.{AreBytes}
+use Rattle.term_model.specs.Places.{ReadsBelow, ReadsNothing}
+use Rattle.term_model.specs.Truth.{is_truth}
+use Rattle.rv_machine.specs.Trace.{transcript_of}
+
+-- a program that a file gives: its entry is a multiple of 4, and its segments hold bytes
+pub record IsProgram (program : Program) : Type 0 where
+  pub aligned : program.entry % 4 ≡ 0
+  pub bytes : All (λ s. AreBytes s.bytes) program.segments
+
+-- an input of n bytes
+pub record IsInput (n : ℕ) (y : List ℕ) : Type 0 where
+  pub length_is : length y ≡ n
+  pub bytes : AreBytes y
+
+-- the run was ended by a trap
+abbrev pub IsTrapped : End → Type 0
+IsTrapped (ends.Trap t) = Unit {0}
+IsTrapped (ends.Exit code) = ⊥
+IsTrapped ends.Limit = ⊥
+
+-- what the run of a program on an input x tells, for at most `limit` steps, where a trap ended it
+pub record IsCrash (program : Program) (limit : ℕ) (x : List ℕ) (run : Transcript) : Type 0 where
+  pub input : IsInput run.n x
+  pub trace : run ≡ transcript_of program x limit
+  pub trapped : IsTrapped run.end
+
+-- a truth term that reads some place, and only places below n
+pub record IsProper (n : ℕ) (t : Tree) : Type 0 where
+  pub truth : is_truth t ≡ true
+  pub reads : ReadsNothing t → ⊥
+  pub within : ReadsBelow n t
+
+-- each of the conditions is such a term
+abbrev pub AreProper : ℕ → List Tree → Type 0
+AreProper n [] = Unit {0}
+AreProper n (t ∷ ts) = IsProper n t × AreProper n ts

@@ -1,0 +1,350 @@
+//! What the events of a run ask of another input.
+
+ghost use Rattle.std.specs.Prelude.{◌≡◌, ◌<◌, ◌≤◌, ◌+◌, ◌-◌, ◌^◌, ℕ, List, length, IfOk, OnOk, slice_index, if◌then◌else◌, ◌==◌, ◌++◌, []};
+ghost use Rattle.rv_word.specs.declared.AluOp.TheVariants.{Add};
+ghost use Rattle.term_model.specs.declared.Op.TheVariants.{Alu};
+ghost use Rattle.term_model.specs.Tree.{Tree, Const};
+ghost use Rattle.term_arena.specs.Trees.{tree_of, Extends};
+ghost use Rattle.normal_form.specs.Norm.{norm};
+ghost use Rattle.normal_form.specs.Normal.{IsNormal, TakesByteNumber};
+ghost use Rattle.memory_map.specs.Cells.{Map, start_map, next_address};
+ghost use Rattle.rv_decode.specs.Rows.{IsWellFormed};
+ghost use Rattle.rv_machine.specs.State.{bits as bits_of};
+ghost use Rattle.replay_law.specs.Forms.{with_conditions, outcome};
+ghost use Rattle.replay_law.specs.Forms as forms;
+ghost use Rattle.replay_law.specs.Terms.{reg_term};
+ghost use Rattle.replay_law.specs.Terms as definitions;
+ghost use Rattle.replay_law.specs.Follow.{fetched_byte, fetch_conditions, row_conditions, instr_conditions, conditions_of};
+ghost use Rattle.rv_decode.specs.Table.{decoded};
+ghost use Rattle.path_condition.specs.Listed.{trees_of, Belong};
+ghost use Rattle.path_condition.specs.Sums.{IsTermOf};
+ghost use Rattle.sym_replay.specs.States.{terms_of, register_tree, IsTermIn, IsState};
+ghost use Rattle.sym_replay.specs.Pins.{call_conditions};
+
+use crate::effects::bits;
+use crate::state::State;
+use elf32::Image;
+use path_condition::Conditions;
+use rv_decode::{Cond, Instr, decode};
+use rv_event::{Event, EventKind};
+use rv_word::{AluOp, byte_of};
+use simplify::make;
+use std::alloc::AllocError;
+use term_arena::{Arena, Op, Term};
+
+/// Adds that a truth term is 0.
+fn add_fails(conditions: &mut Conditions, arena: &mut Arena, t: Term) -> Result<(), AllocError>
+    requires listed { Belong arena.old conditions.old }
+    requires term { IsTermIn arena.old t }
+    ensures trees { OnOk result (trees_of arena.new conditions.new ≡ with_conditions (trees_of arena.old conditions.old) (forms.fails norm (tree_of arena.old t))) }
+    ensures listed { Belong arena.new conditions.new }
+    ensures keeps { Extends arena.old arena.new }
+{
+    let zero = arena.constant(0)?;
+    let fails = make(arena, Op::Eq, t, zero)?;
+    conditions.add_holds(arena, fails)
+}
+
+/// Adds that a comparison of two terms holds, or that it doesn't.
+fn add_comparison(
+    conditions: &mut Conditions,
+    arena: &mut Arena,
+    op: Op,
+    a: Term,
+    b: Term,
+    holds: bool,
+) -> Result<(), AllocError>
+    requires listed { Belong arena.old conditions.old }
+    requires first { IsTermIn arena.old a }
+    requires second { IsTermIn arena.old b }
+    requires comparison { TakesByteNumber op (tree_of arena.old b) }
+    ensures trees { OnOk result (trees_of arena.new conditions.new ≡ with_conditions (trees_of arena.old conditions.old) (if holds then forms.holds (norm op (tree_of arena.old a) (tree_of arena.old b)) else forms.fails norm (norm op (tree_of arena.old a) (tree_of arena.old b)))) }
+    ensures listed { Belong arena.new conditions.new }
+    ensures keeps { Extends arena.old arena.new }
+{
+    let comparison = make(arena, op, a, b)?;
+    if holds {
+        conditions.add_holds(arena, comparison)
+    } else {
+        add_fails(conditions, arena, comparison)
+    }
+}
+
+/// Adds that a branch on two terms was taken, or that it wasn't.
+fn add_outcome(
+    conditions: &mut Conditions,
+    arena: &mut Arena,
+    cond: Cond,
+    a: Term,
+    b: Term,
+    taken: bool,
+) -> Result<(), AllocError>
+    requires listed { Belong arena.old conditions.old }
+    requires first { IsTermIn arena.old a }
+    requires second { IsTermIn arena.old b }
+    ensures trees { OnOk result (trees_of arena.new conditions.new ≡ with_conditions (trees_of arena.old conditions.old) (outcome norm cond (tree_of arena.old a) (tree_of arena.old b) taken)) }
+    ensures listed { Belong arena.new conditions.new }
+    ensures keeps { Extends arena.old arena.new }
+{
+    match cond {
+        Cond::Eq | Cond::Ne if (cond == Cond::Eq) == taken => conditions.add_equal(arena, a, b),
+        Cond::Eq | Cond::Ne => add_comparison(conditions, arena, Op::Eq, a, b, false),
+        Cond::Lt => add_comparison(conditions, arena, Op::Alu(AluOp::Slt), a, b, taken),
+        Cond::Ge => add_comparison(conditions, arena, Op::Alu(AluOp::Slt), a, b, !taken),
+        Cond::Ltu => add_comparison(conditions, arena, Op::Alu(AluOp::Sltu), a, b, taken),
+        Cond::Geu => add_comparison(conditions, arena, Op::Alu(AluOp::Sltu), a, b, !taken),
+    }
+}
+
+/// Adds that the byte at an address is byte `k` of a word.
+fn add_fetched_byte(
+    conditions: &mut Conditions,
+    arena: &mut Arena,
+    image: &Image,
+    state: &State,
+    address: u32,
+    word: u32,
+    k: u8,
+) -> Result<(), AllocError>
+    requires listed { Belong arena.old conditions.old }
+    requires state { IsState arena.old state.now }
+    requires byte { k < 4 }
+    ensures trees { OnOk result (trees_of arena.new conditions.new ≡ with_conditions (trees_of arena.old conditions.old) (forms.holds (fetched_byte norm (terms_of arena.old (start_map image.now.segments) state.now) address word k))) }
+    ensures listed { Belong arena.new conditions.new }
+    ensures keeps { Extends arena.old arena.new }
+{
+    let byte = state.byte(arena, image, address)?;
+    let wanted = arena.constant(u32::from(byte_of(k, word)))?;
+    let same = make(arena, Op::Eq, byte, wanted)?;
+    conditions.add_holds(arena, same)
+}
+
+/// Adds that the four bytes from an address up are those of a word.
+#[tactic(auto, using(crate::proofs::StateLemmas::grown_state))]
+fn add_fetch(
+    conditions: &mut Conditions,
+    arena: &mut Arena,
+    image: &Image,
+    state: &State,
+    address: u32,
+    word: u32,
+) -> Result<(), AllocError>
+    requires listed { Belong arena.old conditions.old }
+    requires state { IsState arena.old state.now }
+    ensures trees { OnOk result (trees_of arena.new conditions.new ≡ with_conditions (trees_of arena.old conditions.old) (fetch_conditions norm (terms_of arena.old (start_map image.now.segments) state.now) address word)) }
+    ensures listed { Belong arena.new conditions.new }
+    ensures keeps { Extends arena.old arena.new }
+{
+    let second = address.wrapping_add(1);
+    let third = second.wrapping_add(1);
+    let fourth = third.wrapping_add(1);
+    add_fetched_byte(conditions, arena, image, state, address, word, 0)?;
+    add_fetched_byte(conditions, arena, image, state, second, word, 1)?;
+    add_fetched_byte(conditions, arena, image, state, third, word, 2)?;
+    add_fetched_byte(conditions, arena, image, state, fourth, word, 3)
+}
+
+/// Adds that a register has a value.
+fn add_register(
+    conditions: &mut Conditions,
+    arena: &mut Arena,
+    state: &State,
+    register: u8,
+    value: u32,
+) -> Result<(), AllocError>
+    requires listed { Belong arena.old conditions.old }
+    requires state { IsState arena.old state.now }
+    requires register { register < 32 }
+    ensures trees { OnOk result (trees_of arena.new conditions.new ≡ with_conditions (trees_of arena.old conditions.old) (forms.pin norm (register_tree arena.old state.now register) value)) }
+    ensures listed { Belong arena.new conditions.new }
+    ensures keeps { Extends arena.old arena.new }
+{
+    let t = state.register(arena, register);
+    conditions.add_pin(arena, t, value)
+}
+
+/// Adds that the values of a call are those of its event.
+#[tactic(auto, using(crate::proofs::StateLemmas::grown_state))]
+fn add_call(
+    conditions: &mut Conditions,
+    arena: &mut Arena,
+    state: &State,
+    call: [u32; 4],
+) -> Result<(), AllocError>
+    requires listed { Belong arena.old conditions.old }
+    requires state { IsState arena.old state.now }
+    ensures trees { (image : Map) → OnOk result (trees_of arena.new conditions.new ≡ with_conditions (trees_of arena.old conditions.old) (call_conditions (terms_of arena.old image state.now) call)) }
+    ensures listed { Belong arena.new conditions.new }
+    ensures keeps { Extends arena.old arena.new }
+{
+    add_register(conditions, arena, state, 17, call[0])?;
+    add_register(conditions, arena, state, 10, call[1])?;
+    add_register(conditions, arena, state, 11, call[2])?;
+    add_register(conditions, arena, state, 12, call[3])
+}
+
+/// Adds that a branch had the outcome that is shown after it. A branch to the next instruction has none.
+fn add_branch(
+    conditions: &mut Conditions,
+    arena: &mut Arena,
+    cond: Cond,
+    a: Term,
+    b: Term,
+    target: u32,
+    next: u32,
+    shown: u32,
+) -> Result<(), AllocError>
+    requires listed { Belong arena.old conditions.old }
+    requires first { IsTermIn arena.old a }
+    requires second { IsTermIn arena.old b }
+    ensures trees { OnOk result (trees_of arena.new conditions.new ≡ with_conditions (trees_of arena.old conditions.old) (if target == next then [] else outcome norm cond (tree_of arena.old a) (tree_of arena.old b) (shown == target))) }
+    ensures listed { Belong arena.new conditions.new }
+    ensures keeps { Extends arena.old arena.new }
+{
+    if target == next {
+        return Ok(());
+    }
+    add_outcome(conditions, arena, cond, a, b, shown == target)
+}
+
+/// Adds that a register and an immediate sum to a data address.
+fn add_address(
+    conditions: &mut Conditions,
+    arena: &mut Arena,
+    state: &State,
+    register: u8,
+    immediate: u32,
+    address: u32,
+) -> Result<(), AllocError>
+    requires listed { Belong arena.old conditions.old }
+    requires state { IsState arena.old state.now }
+    requires register { register < 32 }
+    ensures trees { OnOk result (trees_of arena.new conditions.new ≡ with_conditions (trees_of arena.old conditions.old) (forms.pin norm (norm (Alu Add) (register_tree arena.old state.now register) (Const immediate)) address)) }
+    ensures listed { Belong arena.new conditions.new }
+    ensures keeps { Extends arena.old arena.new }
+{
+    let sum = state.sum(arena, register, immediate)?;
+    conditions.add_pin(arena, sum, address)
+}
+
+/// Adds that a register and an immediate sum to a target once the lowest bit is cleared.
+fn add_jump(
+    conditions: &mut Conditions,
+    arena: &mut Arena,
+    state: &State,
+    register: u8,
+    immediate: u32,
+    target: u32,
+) -> Result<(), AllocError>
+    requires listed { Belong arena.old conditions.old }
+    requires state { IsState arena.old state.now }
+    requires register { register < 32 }
+    ensures trees { OnOk result (trees_of arena.new conditions.new ≡ with_conditions (trees_of arena.old conditions.old) (forms.target norm (norm (Alu Add) (register_tree arena.old state.now register) (Const immediate)) target)) }
+    ensures listed { Belong arena.new conditions.new }
+    ensures keeps { Extends arena.old arena.new }
+{
+    let sum = state.sum(arena, register, immediate)?;
+    conditions.add_target(arena, sum, target)
+}
+
+/// Adds what an instruction asks, by its event and by what is shown after it.
+#[tactic(auto, unfolding(replay_law::specs::Forms::with_conditions))]
+fn add_row(
+    conditions: &mut Conditions,
+    arena: &mut Arena,
+    state: &State,
+    event: &Event,
+    shown: u32,
+    instr: Instr,
+) -> Result<(), AllocError>
+    requires listed { Belong arena.old conditions.old }
+    requires state { IsState arena.old state.now }
+    requires well_formed { IsWellFormed instr }
+    ensures trees { (image : Map) → OnOk result (trees_of arena.new conditions.new ≡ with_conditions (trees_of arena.old conditions.old) (row_conditions norm (terms_of arena.old image state.now) event.now shown instr)) }
+    ensures listed { Belong arena.new conditions.new }
+    ensures keeps { Extends arena.old arena.new }
+{
+    match instr {
+        Instr::Jalr { rd: _, rs1, imm } => {
+            add_jump(conditions, arena, state, rs1, bits(imm), shown)
+        }
+        Instr::Branch {
+            cond,
+            rs1,
+            rs2,
+            offset,
+        } => {
+            let a = state.register(arena, rs1);
+            let b = state.register(arena, rs2);
+            let target = event.pc.wrapping_add(bits(offset));
+            let next = event.pc.wrapping_add(4);
+            add_branch(conditions, arena, cond, a, b, target, next, shown)
+        }
+        Instr::Load {
+            width: _,
+            rd: _,
+            rs1,
+            imm,
+        } => add_address(conditions, arena, state, rs1, bits(imm), event.addr),
+        Instr::Store {
+            width: _,
+            rs1,
+            rs2: _,
+            imm,
+        } => add_address(conditions, arena, state, rs1, bits(imm), event.addr),
+        Instr::Ecall => add_call(conditions, arena, state, event.call),
+        Instr::Lui { .. } => Ok(()),
+        Instr::Auipc { .. } => Ok(()),
+        Instr::Jal { .. } => Ok(()),
+        Instr::AluImm { .. } => Ok(()),
+        Instr::AluReg { .. } => Ok(()),
+        Instr::Fence { .. } => Ok(()),
+        Instr::Ebreak => Ok(()),
+    }
+}
+
+/// Adds what a fetched word asks, by its event and by what is shown after it. An illegal word asks only that it is fetched.
+#[tactic(auto, unfolding(replay_law::specs::Forms::with_conditions))]
+fn add_word(
+    conditions: &mut Conditions,
+    arena: &mut Arena,
+    image: &Image,
+    state: &State,
+    event: &Event,
+    shown: u32,
+) -> Result<(), AllocError>
+    requires listed { Belong arena.old conditions.old }
+    requires state { IsState arena.old state.now }
+    ensures trees { OnOk result (trees_of arena.new conditions.new ≡ with_conditions (trees_of arena.old conditions.old) (fetch_conditions norm (terms_of arena.old (start_map image.now.segments) state.now) event.now.pc event.now.word ++ instr_conditions norm (terms_of arena.old (start_map image.now.segments) state.now) event.now shown (decoded event.now.word))) }
+    ensures listed { Belong arena.new conditions.new }
+    ensures keeps { Extends arena.old arena.new }
+{
+    add_fetch(conditions, arena, image, state, event.pc, event.word)?;
+    match decode(event.word) {
+        Some(instr) => add_row(conditions, arena, state, event, shown, instr),
+        None => Ok(()),
+    }
+}
+
+/// Adds what an event asks, by what is shown after it: the program counter of the next event, or the value of the trap that
+/// ended the run.
+#[tactic(auto, unfolding(replay_law::specs::Follow::conditions_of, replay_law::specs::Forms::with_conditions))]
+pub(crate) fn add_event(
+    conditions: &mut Conditions,
+    arena: &mut Arena,
+    image: &Image,
+    state: &State,
+    event: &Event,
+    shown: u32,
+) -> Result<(), AllocError>
+    requires listed { Belong arena.old conditions.old }
+    requires state { IsState arena.old state.now }
+    ensures trees { OnOk result (trees_of arena.new conditions.new ≡ with_conditions (trees_of arena.old conditions.old) (conditions_of norm (terms_of arena.old (start_map image.now.segments) state.now) event.now shown)) }
+    ensures listed { Belong arena.new conditions.new }
+    ensures keeps { Extends arena.old arena.new }
+{
+    match event.kind {
+        EventKind::NoFetch => Ok(()),
+        _ => add_word(conditions, arena, image, state, event, shown),
+    }
+}

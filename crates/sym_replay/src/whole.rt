@@ -1,0 +1,73 @@
+//! The replay of a whole run.
+
+ghost use Rattle.std.specs.Prelude.{◌≡◌, ◌<◌, ◌≤◌, ◌+◌, ◌↔◌, ℕ, List, [], length, drop, slice_get, IfOk, IsTrue};
+ghost use Rattle.term_arena.specs.Trees.{Extends};
+ghost use Rattle.rv_machine.specs.Class.{in_class};
+ghost use Rattle.replay_law.specs.Forms.{Hold};
+ghost use Rattle.replay_law.specs.Follow.{shown_next};
+ghost use Rattle.replay_law.specs.Crash.{IsProgram, IsCrash, IsInput, AreProper};
+ghost use Rattle.path_condition.specs.Listed.{trees_of, Belong};
+ghost use Rattle.trace_conditions.specs.Conditions.{conditions_of};
+
+use crate::pins::add_event;
+use crate::state::State;
+use elf32::Image;
+use memory_map::Memory;
+use path_condition::Conditions;
+use rv_event::{End, Event, Transcript};
+use std::alloc::{AllocError, Global};
+use term_arena::Arena;
+use trace_conditions::{conditions_are_proper, conditions_hold_of_the_class};
+
+/// What is shown after an event: the program counter of the next, or the value of the trap that ended the run.
+fn shown_after(events: &[Event], place: usize, end: End) -> u32
+    requires { place < length events.now }
+    ensures { result ≡ shown_next (drop (place + 1) events.now) end }
+{
+    match events.get(place + 1) {
+        Some(next) => next.pc,
+        None => match end {
+            End::Trap(trap) => trap.value,
+            End::Exit(_) | End::Limit => 0,
+        },
+    }
+}
+
+/// The event at a place.
+fn event_at(events: &[Event], place: usize) -> Event
+    requires { place < length events.now }
+    ensures { slice_get events.now place ≡ Some result }
+{
+    events[place]
+}
+
+/// The conditions of a run of a program, over an arena: their trees are those of `conditions_of`, in order.
+///
+/// The run's input is not asked for. Where the transcript is what the run on some input tells, and a trap ended it, the
+/// conditions hold of exactly the inputs of its length that have this run.
+pub fn replay(
+    alloc: Global,
+    image: &Image,
+    transcript: &Transcript,
+    arena: &mut Arena,
+) -> Result<Conditions, AllocError>
+    ensures trees { IfOk result (λ c. trees_of arena.new c ≡ conditions_of (record { entry = image.now.entry; segments = image.now.segments }) transcript.now) }
+    ensures class { (limit : ℕ) (x y : List ℕ) → IsProgram (record { entry = image.now.entry; segments = image.now.segments }) → IsCrash (record { entry = image.now.entry; segments = image.now.segments }) limit x transcript.now → IsInput transcript.now.n y → IfOk result (λ c. Hold y (trees_of arena.new c) ↔ IsTrue (in_class (record { entry = image.now.entry; segments = image.now.segments }) limit transcript.now y)) }
+    ensures proper { (limit : ℕ) (x : List ℕ) → IsProgram (record { entry = image.now.entry; segments = image.now.segments }) → IsCrash (record { entry = image.now.entry; segments = image.now.segments }) limit x transcript.now → IfOk result (λ c. AreProper transcript.now.n (trees_of arena.new c)) }
+    ensures listed { IfOk result (Belong arena.new) }
+    ensures keeps { Extends arena.old arena.new }
+{
+    conditions_hold_of_the_class();
+    conditions_are_proper();
+    let memory = Memory::start(alloc, image)?;
+    let mut state = State::start(alloc, arena)?;
+    let mut conditions = Conditions::new(alloc);
+    let events = transcript.events.as_slice();
+    for i in 0..events.len() {
+        let event = event_at(events, i);
+        let shown = shown_after(events, i, transcript.end);
+        add_event(&mut conditions, arena, image, &state, &event, shown)?;
+        state.follow_event(arena, image, &memory, transcript.n, &event)?;
+    }
+    Ok(conditions)
+}

@@ -1,0 +1,3 @@
+mod Reading
+mod Comparing
+mod Maker
