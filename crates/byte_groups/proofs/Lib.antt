@@ -1,0 +1,8 @@
+pub mod LabelLemmas
+pub mod KeyLemmas
+pub mod ReachedLemmas
+pub mod LeafLemmas
+pub mod GatherLemmas
+pub mod DealLemmas
+pub mod FinalLemmas
+pub mod TestLemmas

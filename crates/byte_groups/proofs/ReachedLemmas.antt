@@ -1,0 +1,119 @@
+-- The terms under conditions, taken from the highest number down.
+use Rattle.std.proofs.Common.{◌≡◌, ℕ, ◌<◌, ◌⊎◌, List, [], ◌∷◌, ◌++◌, Bool, true, false, ◌||◌, length, get_or, subst, refl, ◌∙◌, ap, inl, inr, arith}
+use Rattle.std.specs.Prelude.{Contains, AllPairs}
+use Rattle.std.proofs.lemmas.List.Elements.{Contains-push_cases, Contains-push, Contains-append_left, Contains-get_or}
+use Rattle.std.proofs.lemmas.List.Quantifiers.{all_pairs_push}
+use Rattle.term_model.specs.declared.Op.{Op}
+use Rattle.term_model.specs.Tree.{Tree, Apply}
+use Rattle.term_model.specs.Places.{reads}
+use Rattle.term_arena.specs.Trees.{tree_of, IsShared}
+use Rattle.byte_groups.specs.Reached.{ReadsWith, IsUnder, OperandsPass, AreReached}
+
+-- the terms taken so far, and those that are still to be taken
+pub record IsReaching (trees : List Tree) (conditions pending terms : List ℕ) : Type 0 where
+  pub descending : AllPairs (λ a b. b < a) terms
+  pub below : (t u : ℕ) → Contains terms t → Contains pending u → u < t
+  pub pending_belong : (t : ℕ) → Contains pending t → t < length trees
+  pub belong : (t : ℕ) → Contains terms t → t < length trees
+  pub starts : (t : ℕ) → Contains conditions t → Contains pending t ⊎ Contains terms t
+  pub closed : (t : ℕ) → Contains terms t → OperandsPass trees (λ u. (u < t) × (Contains pending u ⊎ Contains terms u)) t
+  pub pending_under : (t : ℕ) → Contains pending t → (c : ℕ) × Contains conditions c × ReadsWith trees t c
+  pub under : (t : ℕ) → Contains terms t → (c : ℕ) × Contains conditions c × ReadsWith trees t c
+
+-- at the start the conditions are to be taken
+pub reaching_none : (trees : List Tree) (conditions pending : List ℕ) → ((t : ℕ) → Contains conditions t → t < length trees) → ((t : ℕ) → Contains pending t → Contains conditions t) → ((t : ℕ) → Contains conditions t → Contains pending t) → IsReaching trees conditions pending []
+reaching_none trees conditions pending belong from to = record {
+  descending = λ i j d l h. absurd (omega arith);
+  below = λ t u h. absurd (none t h);
+  pending_belong = λ t h. belong t (from t h);
+  belong = λ t h. absurd (none t h);
+  starts = λ t h. inl (to t h);
+  closed = λ t h. absurd (none t h);
+  pending_under = λ t h. (t, from t h, λ i r. r);
+  under = λ t h. absurd (none t h);
+}
+  where
+    none : (t : ℕ) → Contains [] t → ⊥
+    none t (k, l, e) = omega arith
+
+-- at the end nothing is
+pub reached_all : (trees : List Tree) (conditions pending terms : List ℕ) → IsReaching trees conditions pending terms → ((t : ℕ) → Contains pending t → ⊥) → AreReached trees conditions terms
+reached_all trees conditions pending terms so_far none = record {
+  descending = so_far.descending;
+  belong = so_far.belong;
+  starts = λ t h. in_terms t (so_far.starts t h);
+  closed = λ t h op x y l m e. let both = so_far.closed t h op x y l m e in ((both.0.0, in_terms x both.0.1), (both.1.0, in_terms y both.1.1));
+  under = so_far.under;
+}
+  where
+    in_terms : (t : ℕ) → Contains pending t ⊎ Contains terms t → Contains terms t
+    in_terms t (inl h) = absurd (none t h)
+    in_terms t (inr h) = h
+
+module _ (trees : List Tree) (conditions pending terms : List ℕ) (so_far : IsReaching trees conditions pending terms) (rest : List ℕ) (t : ℕ) (popped : pending ≡ rest ++ t ∷ []) (lower : (u : ℕ) → Contains rest u → u < t) (after : List ℕ)
+    (keeps : (u : ℕ) → Contains rest u → Contains after u) (adds : (u : ℕ) → Contains after u → Contains rest u ⊎ IsUnder trees t u) (operands : OperandsPass trees (Contains after) t) where
+  was : Contains pending t
+  was = rw popped (Contains-push rest t)
+
+  rest_was : (u : ℕ) → Contains rest u → Contains pending u
+  rest_was u h = rw popped (Contains-append_left rest (t ∷ []) u h)
+
+  -- what was to be taken or was taken still is
+  carried : (u : ℕ) → Contains pending u ⊎ Contains terms u → Contains after u ⊎ Contains (terms ++ t ∷ []) u
+  carried u (inl h) = elim (Contains-push_cases rest t u (rw popped at h)) [
+    | inl r ↦ inl (keeps u r)
+    | inr e ↦ inr (rw (← e) (Contains-push terms t))
+  ]
+  carried u (inr h) = inr (Contains-append_left terms (t ∷ []) u h)
+
+  pub after_below : (u : ℕ) → Contains after u → u < t
+  after_below u h = elim (adds u h) [ inl r ↦ lower u r | inr under ↦ under.0 ]
+
+  -- one more term is taken
+  pub reaching_more : IsReaching trees conditions after (terms ++ t ∷ [])
+  reaching_more = record {
+    descending = all_pairs_push (λ a b. b < a) terms t so_far.descending (λ k d l. so_far.below (get_or terms k d) t (Contains-get_or terms k d l) was);
+    below = λ v u h a. elim (Contains-push_cases terms t v h) [
+      | inl r ↦ let l : u < t = after_below u a in let m : t < v = so_far.below v t r was in omega arith
+      | inr e ↦ let l : u < t = after_below u a in omega (arith, l, e)
+    ];
+    pending_belong = λ u h. let l : u < t = after_below u h in let m : t < length trees = so_far.pending_belong t was in omega arith;
+    belong = λ u h. elim (Contains-push_cases terms t u h) [
+      | inl r ↦ so_far.belong u r
+      | inr e ↦ let m : t < length trees = so_far.pending_belong t was in omega (arith, m, e)
+    ];
+    starts = λ u h. carried u (so_far.starts u h);
+    closed = λ u h. elim (Contains-push_cases terms t u h) as (λ _. OperandsPass trees (λ v. (v < u) × (Contains after v ⊎ Contains (terms ++ t ∷ []) v)) u) [
+      | inl r ↦ λ op x y l m e. let both = so_far.closed u r op x y l m e in ((both.0.0, carried x both.0.1), (both.1.0, carried y both.1.1))
+      | inr same ↦ λ op x y l m e. let both = operands op x y l m (ap (tree_of trees) same ∙ e) in let low : x < t = after_below x both.0 in let next : y < t = after_below y both.1 in ((omega (arith, low, same), inl both.0), (omega (arith, next, same), inl both.1))
+    ];
+    pending_under = λ u h. elim (adds u h) [
+      | inl r ↦ so_far.pending_under u (rest_was u r)
+      | inr below ↦ let top = so_far.pending_under t was in (top.0, top.1, λ i r. top.2 i (below.1 i r))
+    ];
+    under = λ u h. elim (Contains-push_cases terms t u h) [
+      | inl r ↦ so_far.under u r
+      | inr e ↦ rw (← e) (so_far.pending_under t was)
+    ];
+  }
+
+-- an operation reads what its operands read
+pub operands_under : (trees : List Tree) (t a b : ℕ) (op : Op) → tree_of trees t ≡ Apply op (tree_of trees a) (tree_of trees b) → ReadsWith trees a t × ReadsWith trees b t
+operands_under trees t a b op e =
+    (λ i r. ap (λ s. reads s i) e ∙ left_of (reads (tree_of trees a) i) (reads (tree_of trees b) i) r, λ i r. ap (λ s. reads s i) e ∙ right_of (reads (tree_of trees a) i) (reads (tree_of trees b) i) r)
+  where
+    left_of : (s t : Bool) → s ≡ true → (s || t) ≡ true
+    left_of true t e = refl
+    left_of false t e = absurd (cc)
+
+    right_of : (s t : Bool) → t ≡ true → (s || t) ≡ true
+    right_of true t e = refl
+    right_of false t e = e
+
+-- the operands of an operation are those of its node
+pub operands_are : (trees : List Tree) (shared : IsShared trees) (t a b : ℕ) (op : Op) → a < length trees → b < length trees → tree_of trees t ≡ Apply op (tree_of trees a) (tree_of trees b) →
+    (P : ℕ → Type 0) → P a → P b → OperandsPass trees P t
+operands_are trees shared t a b op l m e P p q other x y x_in y_in f =
+    let first : tree_of trees a ≡ tree_of trees x = cc in
+    let second : tree_of trees b ≡ tree_of trees y = cc in
+    (subst P (shared a x l x_in first) p, subst P (shared b y m y_in second) q)

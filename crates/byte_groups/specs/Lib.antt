@@ -1,0 +1,6 @@
+pub mod Reached
+pub mod Labels
+pub mod Joined
+pub mod Gathered
+pub mod Dealt
+pub mod Grouped

@@ -1,0 +1,100 @@
+//! Conditions divided into groups: the finest division of the places that they read in which each
+//! condition's places lie in one group.
+//!
+//! Contracts see a `GroupList` as a list of groups.
+#![tactic(auto)]
+
+mod assembled;
+mod dealt;
+mod gathered;
+mod joined;
+mod labels;
+mod reached;
+
+ghost use Rattle.std.specs.Prelude.{◌≡◌, All, IfOk};
+ghost use Rattle.group_model.specs.Conditions.{IsCondition};
+ghost use Rattle.group_model.specs.Division.{AreGroups};
+ghost use Rattle.byte_groups.specs.Reached.{AreReached};
+
+use assembled::group_by_labels;
+use gathered::marks_of;
+pub use group_model::{Group, Places, Terms};
+use joined::{labels_of, leaves_of, width_of};
+use reached::reached;
+use std::alloc::{AllocError, Global};
+use std::marker::Model;
+use term_arena::{Arena, Term};
+
+/// Groups in a row.
+#[derive(Debug, Drop)]
+pub struct GroupList {
+    items: Vec<Group>,
+}
+
+impl Model for GroupList {
+    ghost use Rattle.std.specs.Prelude.{List};
+    ghost use Rattle.group_model.specs.declared.Group.{Group};
+
+    ghost Value = { List Group };
+
+    ghost view = { λ g. g.items.items };
+}
+
+impl GroupList {
+    ghost use Rattle.std.specs.Prelude.{◌≡◌};
+
+    /// The vector's groups, in its order.
+    pub fn from_vec(items: Vec<Group>) -> Self
+        ensures { result ≡ items.items }
+    {
+        GroupList { items }
+    }
+
+    /// The groups, borrowed.
+    pub fn as_slice(&self) -> &[Group]
+        ensures { result.now ≡ self.now }
+    {
+        self.items.as_slice()
+    }
+
+    /// The groups as a vector.
+    pub fn into_vec(self) -> Vec<Group>
+        ensures { result.items ≡ self }
+    {
+        self.items
+    }
+}
+
+/// The groups of conditions, where `terms` are those that stand under them.
+fn divide(
+    alloc: Global,
+    arena: &Arena,
+    conditions: &[Term],
+    terms: &[Term],
+) -> Result<Vec<Group>, AllocError>
+    requires conditions { All (IsCondition arena.now) conditions.now }
+    requires reached { AreReached arena.now conditions.now terms.now }
+    ensures { IfOk result (λ groups. AreGroups arena.now conditions.now groups.items) }
+{
+    let leaves = leaves_of(alloc, arena, terms)?;
+    let width = width_of(arena, terms);
+    let labels = labels_of(alloc, arena, terms, &leaves, width)?;
+    let marks = marks_of(alloc, arena, terms, width)?;
+    let mut numbers = vec![in alloc; None; width]?;
+    group_by_labels(alloc, conditions, &leaves, &labels, &marks, &mut numbers)
+}
+
+/// The groups of conditions, each of which is a truth term that reads the input: the finest
+/// division of the places that they read in which each condition's places lie in one group. Groups
+/// stand in the order of their first places, and the conditions of a group in their order.
+pub fn groups(alloc: Global, arena: &Arena, conditions: &[Term]) -> Result<GroupList, AllocError>
+    requires { All (IsCondition arena.now) conditions.now }
+    ensures { IfOk result (AreGroups arena.now conditions.now) }
+{
+    let terms = reached(alloc, arena, conditions)?;
+    let items = divide(alloc, arena, conditions, &terms)?;
+    Ok(GroupList::from_vec(items))
+}
+
+#[cfg(test)]
+mod tests;

@@ -1,0 +1,49 @@
+//! Whether conditions hold of an input, by evaluation of their terms.
+#![tactic(auto)]
+
+ghost use Rattle.std.specs.Prelude.{◌≡◌, ◌<◌, ◌≤◌, ◌↔◌, length, All, IsTrue};
+ghost use Rattle.term_model.specs.Places.{ReadsBelow};
+ghost use Rattle.term_arena.specs.Trees.{tree_of};
+ghost use Rattle.group_model.specs.Conditions.{Hold, holds, trees_of};
+
+use group_model::conditions_hold_by_test;
+use term_arena::{Arena, Scratch, Term};
+
+/// Whether each of the conditions has the value 1 on the input. The scratch is working space, and
+/// keeps its room. It takes no memory.
+pub fn check_model(arena: &Arena, conditions: &[Term], input: &[u8], scratch: &mut Scratch) -> bool
+    requires belong { All (λ t. t < length arena.now) conditions.now }
+    requires room { length arena.now ≤ scratch.old }
+    requires reads { All (λ t. ReadsBelow (length input.now) (tree_of arena.now t)) conditions.now }
+    ensures test { result ≡ holds (trees_of arena.now conditions.now) input.now }
+    ensures exact { IsTrue result ↔ Hold (trees_of arena.now conditions.now) input.now }
+    ensures keeps { scratch.new ≡ scratch.old }
+{
+    conditions_hold_by_test();
+    for condition in conditions {
+        if arena.eval(*condition, input, scratch) != 1 {
+            return false;
+        }
+    }
+    true
+}
+
+#[cfg(test)]
+mod tests {
+    use super::*;
+    use std::test::Fail;
+    use term_arena::Op;
+
+    #[test]
+    fn every_condition_counts(rt: HostRuntime) -> Result<(), Fail> {
+        let mut arena = Arena::new(rt.alloc())?;
+        let first = arena.input(0)?;
+        let second = arena.input(1)?;
+        let same = arena.intern(Op::Eq, first, second)?;
+        let mut scratch = Scratch::for_arena(rt.alloc(), &arena)?;
+        assert!(rt; check_model(&arena, &[same], &[5, 5], &mut scratch));
+        assert!(rt; !check_model(&arena, &[same], &[5, 6], &mut scratch));
+        assert!(rt; check_model(&arena, &[], &[], &mut scratch));
+        Ok(())
+    }
+}

@@ -1,0 +1,3 @@
+pub mod TriedLemmas
+pub mod ValueLemmas
+pub mod GroupLemmas

@@ -1,0 +1,218 @@
+-- Values gathered one after the other.
+use Rattle.std.proofs.Common.{◌≡◌, ◌≢◌, ℕ, ◌+◌, ◌<◌, ◌≤◌, ◌==◌, ◌||◌, ◌⊎◌, Bool, true, false, cond, List, [], ◌∷◌, get_or, subst, refl, sym, ◌∙◌, ap, inl, inr, arith}
+use Rattle.std.specs.Prelude.{Contains, filter, nat_lt, slice_set}
+use Rattle.std.specs.List.{list_all}
+use mathlib.Core.Path.{fun_ext}
+use Rattle.std.proofs.lemmas.List.{set-set, set_comm}
+use Rattle.std.proofs.lemmas.Bool.{and_parts, cases_lt, lt-ltb, ltb-true}
+use Rattle.std.proofs.lemmas.Bool.Decides.{nat_tests}
+use Rattle.input_laws.specs.Inputs.{bytes}
+use Rattle.input_laws.specs.Sets.{freed}
+use Rattle.input_laws.specs.Narrow.{freed_beside}
+use Rattle.input_laws.proofs.Bound.{bytes_in_range}
+use Rattle.input_laws.proofs.Inputs.{Among, among_bytes, contains_from_among}
+use Rattle.narrow_solve.specs.Tried.{with_pair}
+
+-- the set has those of the wanted values that are below the turn, and of the others wanted ones alone
+pub record AreGathered (wanted set : ℕ → Bool) (turn : ℕ) : Type 0 where
+  pub sound : (v : ℕ) → set v ≡ true → wanted v ≡ true
+  pub complete : (v : ℕ) → v < turn → wanted v ≡ true → set v ≡ true
+
+same_number : (x y : ℕ) → (x == y) ≡ true → x ≡ y
+same_number x y e = grind (arith, nat_tests)
+
+itself : (x : ℕ) → (x == x) ≡ true
+itself x = grind (arith, nat_tests)
+
+one_of : (s t : Bool) → (s || t) ≡ true → (s ≡ true) ⊎ (t ≡ true)
+one_of true t e = inl refl
+one_of false t e = inr e
+
+left_of : (s t : Bool) → s ≡ true → (s || t) ≡ true
+left_of true t e = refl
+left_of false t e = absurd (cc)
+
+right_of : (s t : Bool) → t ≡ true → (s || t) ≡ true
+right_of true t e = refl
+right_of false t e = e
+
+one_truth : (s t : Bool) → (s ≡ true → t ≡ true) → (t ≡ true → s ≡ true) → s ≡ t
+one_truth true t f g = sym (f refl)
+one_truth false true f g = g refl
+one_truth false false f g = refl
+
+-- at the start the set has a known value alone
+pub gathered_one : (wanted set : ℕ → Bool) (known : ℕ) → wanted known ≡ true → set ≡ (λ v. v == known) → AreGathered wanted set 0
+gathered_one wanted set known is e = record {
+  sound = λ v t. let same : v ≡ known = same_number v known (ap (λ s. s v) (sym e) ∙ t) in ap wanted same ∙ is;
+  complete = λ v l t. absurd (omega arith);
+}
+
+module _ (wanted set : ℕ → Bool) (turn : ℕ) (so_far : AreGathered wanted set turn) where
+  -- a wanted value is put into the set
+  pub gathered_more : (more : ℕ → Bool) → wanted turn ≡ true → more ≡ (λ v. set v || v == turn) → AreGathered wanted more (turn + 1)
+  gathered_more more is e = record {
+    sound = λ v t. elim (one_of (set v) (v == turn) (ap (λ s. s v) (sym e) ∙ t)) [
+      | inl before ↦ so_far.sound v before
+      | inr now ↦ let same : v ≡ turn = same_number v turn now in ap wanted same ∙ is
+    ];
+    complete = λ v l t. ap (λ s. s v) e ∙ elim (cases_lt v turn) [
+      | inl less ↦ left_of (set v) (v == turn) (so_far.complete v less t)
+      | inr more ↦ right_of (set v) (v == turn) (let same : v ≡ turn = omega arith in ap (λ x. x == turn) same ∙ itself turn)
+    ];
+  }
+
+  -- a value that is not wanted is left out
+  pub gathered_same : wanted turn ≡ false → AreGathered wanted set (turn + 1)
+  gathered_same is = record {
+    sound = so_far.sound;
+    complete = λ v l t. elim (cases_lt v turn) [
+      | inl less ↦ so_far.complete v less t
+      | inr more ↦ let same : v ≡ turn = omega arith in let fails : wanted v ≡ false = ap wanted same ∙ is in absurd (cc)
+    ];
+  }
+
+  -- at the end the set has exactly the wanted values
+  pub gathered_all : 256 ≤ turn → ((v : ℕ) → wanted v ≡ true → v < 256) → set ≡ wanted
+  gathered_all l small = fun_ext (λ v. one_truth (set v) (wanted v) (so_far.sound v) (λ t. let b : v < 256 = small v t in so_far.complete v (omega arith) t))
+
+-- freed values are bytes
+pub freed_are_bytes : (test : List ℕ → Bool) (y : List ℕ) (i v : ℕ) → freed test y i v ≡ true → v < 256
+freed_are_bytes test y i v t = ltb-true v 256 (and_parts (nat_lt v 256) (test (slice_set y i v)) t).0
+
+-- a byte is freed exactly where it passes
+pub freed_of_byte : (test : List ℕ → Bool) (y : List ℕ) (i v : ℕ) → v < 256 → freed test y i v ≡ test (slice_set y i v)
+freed_of_byte test y i v b = rw (lt-ltb v 256 b) refl
+
+-- the same beside other values
+pub freed_beside_are_bytes : (test : List ℕ → Bool) (set : ℕ → Bool) (y : List ℕ) (i j w : ℕ) → freed_beside test set y i j w ≡ true → w < 256
+freed_beside_are_bytes test set y i j w t = ltb-true w 256 (and_parts (nat_lt w 256) (list_all (λ v. test (with_pair y i j v w)) (filter set bytes)) t).0
+
+pub freed_beside_of_byte : (test : List ℕ → Bool) (set : ℕ → Bool) (y : List ℕ) (i j w : ℕ) → w < 256 → freed_beside test set y i j w ≡ list_all (λ v. test (with_pair y i j v w)) (filter set bytes)
+freed_beside_of_byte test set y i j w b = rw (lt-ltb w 256 b) refl
+
+-- ---- a test of each value of a set
+
+-- an item in the set is kept
+among_filter : (set : ℕ → Bool) (b : ℕ) (xs : List ℕ) → set b ≡ true → Among b xs → Among b (filter set xs)
+among_filter set b [] t a = absurd a
+among_filter set b (x ∷ xs) t (inl e) = rw (rw e at t) (inl e)
+among_filter set b (x ∷ xs) t (inr a) = kept (set x) (among_filter set b xs t a)
+  where
+    kept : (s : Bool) → Among b (filter set xs) → Among b (cond s (x ∷ filter set xs) (filter set xs))
+    kept true h = inr h
+    kept false h = h
+
+-- what holds of all items holds of each
+all_among : (test : ℕ → Bool) (b : ℕ) (xs : List ℕ) → list_all test xs ≡ true → Among b xs → test b ≡ true
+all_among test b [] t a = absurd a
+all_among test b (x ∷ xs) t (inl e) = rw e (and_parts (test x) (list_all test xs) t).0
+all_among test b (x ∷ xs) t (inr a) = all_among test b xs (and_parts (test x) (list_all test xs) t).1 a
+
+-- a test that passes for each item of the set passes for all that are kept
+all_kept : (test set : ℕ → Bool) (xs : List ℕ) → ((v : ℕ) → Among v xs → set v ≡ true → test v ≡ true) → list_all test (filter set xs) ≡ true
+all_kept test set [] h = refl
+all_kept test set (x ∷ xs) h = kept (set x) refl (all_kept test set xs (λ v a. h v (inr a)))
+  where
+    kept : (s : Bool) → set x ≡ s → list_all test (filter set xs) ≡ true → list_all test (cond s (x ∷ filter set xs) (filter set xs)) ≡ true
+    kept true is rest = let here : test x ≡ true = h x (inl refl) is in rw (here, rest) refl
+    kept false is rest = rest
+
+-- what is among the bytes is a byte
+byte_among : (v : ℕ) → Among v bytes → v < 256
+byte_among v a =
+    let c : Contains bytes v = contains_from_among v bytes a in
+    let l : get_or bytes c.0 v < 256 = bytes_in_range c.0 v c.1 in
+    omega (arith, l, c.2)
+
+not_true : (s : Bool) → (s ≡ true → ⊥) → s ≡ false
+not_true true h = absurd (h refl)
+not_true false h = refl
+
+-- the values of the set below the turn passed at the place, and the trial bytes changed there alone
+pub record HaveHeld (test : List ℕ → Bool) (set : ℕ → Bool) (y now : List ℕ) (i turn : ℕ) : Type 0 where
+  pub aside : (v : ℕ) → slice_set now i v ≡ slice_set y i v
+  pub held : (v : ℕ) → v < turn → set v ≡ true → test (slice_set y i v) ≡ true
+
+-- at the start no value is tried
+pub held_none : (test : List ℕ → Bool) (set : ℕ → Bool) (y : List ℕ) (i : ℕ) → HaveHeld test set y y i 0
+held_none test set y i = record { aside = λ v. refl; held = λ v l t. absurd (omega arith) }
+
+module _ (test : List ℕ → Bool) (set : ℕ → Bool) (y now : List ℕ) (i turn : ℕ) (so_far : HaveHeld test set y now i turn) where
+  -- a value of the set passes
+  pub held_more : test (slice_set now i turn) ≡ true → HaveHeld test set y (slice_set now i turn) i (turn + 1)
+  held_more e = record {
+    aside = λ v. set-set now i turn v ∙ so_far.aside v;
+    held = λ v l t. elim (cases_lt v turn) [
+      | inl less ↦ so_far.held v less t
+      | inr more ↦ let same : v ≡ turn = omega arith in ap (λ x. test (slice_set y i x)) same ∙ (ap test (sym (so_far.aside turn)) ∙ e)
+    ];
+  }
+
+  -- a value that is not of the set is left out
+  pub held_same : set turn ≡ false → HaveHeld test set y now i (turn + 1)
+  held_same e = record {
+    aside = so_far.aside;
+    held = λ v l t. elim (cases_lt v turn) [
+      | inl less ↦ so_far.held v less t
+      | inr more ↦ let same : v ≡ turn = omega arith in let fails : set v ≡ false = ap set same ∙ e in absurd (cc)
+    ];
+  }
+
+  -- at the end each value of the set passed
+  pub each_held : 256 ≤ turn → list_all (λ v. test (slice_set y i v)) (filter set bytes) ≡ true
+  each_held l = all_kept (λ v. test (slice_set y i v)) set bytes (λ v a t. let b : v < 256 = byte_among v a in so_far.held v (omega arith) t)
+
+  -- a value of the set fails
+  pub one_failed : turn < 256 → set turn ≡ true → test (slice_set now i turn) ≡ false → list_all (λ v. test (slice_set y i v)) (filter set bytes) ≡ false
+  one_failed l is e =
+      not_true (list_all (λ v. test (slice_set y i v)) (filter set bytes)) (λ all.
+      let passes : test (slice_set y i turn) ≡ true = all_among (λ v. test (slice_set y i v)) turn (filter set bytes) all (among_filter set turn bytes is (among_bytes turn l)) in
+      let fails : test (slice_set y i turn) ≡ false = ap test (sym (so_far.aside turn)) ∙ e in
+      cc)
+
+-- ---- values of the higher place, each tried with every value of the lower place
+
+-- the values gathered so far, where the trial bytes changed at the two places alone
+pub record AreBeside (test : List ℕ → Bool) (lower set : ℕ → Bool) (y now : List ℕ) (low high turn : ℕ) : Type 0 where
+  pub aside : (v w : ℕ) → with_pair now low high v w ≡ with_pair y low high v w
+  pub gathered : AreGathered (freed_beside test lower y low high) set turn
+
+-- a value that is put at the higher place is put over, also where the lower place changed
+pub put_over_higher : (now after : List ℕ) (low high value v w : ℕ) → low ≢ high → ((u : ℕ) → slice_set after low u ≡ slice_set (slice_set now high value) low u) → with_pair after low high v w ≡ with_pair now low high v w
+put_over_higher now after low high value v w apart aside =
+    ap (λ l. slice_set l high w) (aside v)
+    ∙ (sym (set_comm (slice_set now high value) high low w v (λ e. apart (sym e)))
+    ∙ (ap (λ l. slice_set l low v) (set-set now high value w)
+    ∙ set_comm now high low w v (λ e. apart (sym e))))
+
+-- whether a value passes with each of the lower place's is whether it is freed beside them
+pub freed_is_each : (test : List ℕ → Bool) (lower set : ℕ → Bool) (y now : List ℕ) (low high turn : ℕ) → low ≢ high → turn < 256 → AreBeside test lower set y now low high turn → freed_beside test lower y low high turn ≡ list_all (λ v. test (slice_set (slice_set now high turn) low v)) (filter lower bytes)
+freed_is_each test lower set y now low high turn apart l so_far =
+    freed_beside_of_byte test lower y low high turn l
+    ∙ ap (λ p. list_all p (filter lower bytes)) (fun_ext (λ v. ap test (sym (so_far.aside v turn) ∙ set_comm now low high v turn apart)))
+
+-- at the start the set has a known value alone
+pub beside_one : (test : List ℕ → Bool) (lower set : ℕ → Bool) (y : List ℕ) (low high known : ℕ) → freed_beside test lower y low high known ≡ true → set ≡ (λ v. v == known) → AreBeside test lower set y y low high 0
+beside_one test lower set y low high known is e = record { aside = λ v w. refl; gathered = gathered_one (freed_beside test lower y low high) set known is e }
+
+-- the value of the turn is put into the set where it passes
+pub beside_more : (test : List ℕ → Bool) (lower set more : ℕ → Bool) (y now after : List ℕ) (low high turn : ℕ) (passes : Bool) → low ≢ high → turn < 256 → AreBeside test lower set y now low high turn → ((u : ℕ) → slice_set after low u ≡ slice_set (slice_set now high turn) low u) → passes ≡ list_all (λ v. test (slice_set (slice_set now high turn) low v)) (filter lower bytes) → ((passes ≡ true) × (more ≡ (λ v. set v || v == turn))) ⊎ ((passes ≡ false) × (more ≡ set)) → AreBeside test lower more y after low high (turn + 1)
+beside_more test lower set more y now after low high turn passes apart l so_far aside each cases = record {
+  aside = λ v w. put_over_higher now after low high turn v w apart aside ∙ so_far.aside v w;
+  gathered = elim cases [
+    | inl put ↦ gathered_more (freed_beside test lower y low high) set turn so_far.gathered more (wanted ∙ put.0) put.1
+    | inr left ↦ let same : set ≡ more = sym left.1 in let P : (ℕ → Bool) → Type 0 = λ s. AreGathered (freed_beside test lower y low high) s (turn + 1) in subst P same (gathered_same (freed_beside test lower y low high) set turn so_far.gathered (wanted ∙ left.0))
+  ];
+}
+  where
+    wanted : freed_beside test lower y low high turn ≡ passes
+    wanted = freed_is_each test lower set y now low high turn apart l so_far ∙ sym each
+
+-- a value is freed beside others where it passes with each of them
+pub freed_beside_known : (test : List ℕ → Bool) (set : ℕ → Bool) (y : List ℕ) (i j w : ℕ) → w < 256 → ((v : ℕ) → set v ≡ true → test (with_pair y i j v w) ≡ true) → freed_beside test set y i j w ≡ true
+freed_beside_known test set y i j w b h = freed_beside_of_byte test set y i j w b ∙ all_kept (λ v. test (with_pair y i j v w)) set bytes (λ v a. h v)
+
+-- a freed value passes
+pub freed_passes : (test : List ℕ → Bool) (y : List ℕ) (i v : ℕ) → freed test y i v ≡ true → test (slice_set y i v) ≡ true
+freed_passes test y i v t = (and_parts (nat_lt v 256) (test (slice_set y i v)) t).1

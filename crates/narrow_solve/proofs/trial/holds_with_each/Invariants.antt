@@ -1,0 +1,11 @@
+use Rattle.std.proofs.Common.{◌≡◌}
+use Rattle.byte_sets.specs.ByteSet.{has}
+use Rattle.group_model.specs.Conditions.{holds, trees_of}
+use Rattle.narrow_solve.proofs.ValueLemmas.{HaveHeld}
+use Rattle.narrow_solve.proofs.trial.holds_with_each.Given as goal
+
+abbrev pub invariant-loop-turn : goal.invariant-loop-turn
+invariant-loop-turn l = record {
+  room : l.scratch ≡ l.initial.scratch;
+  held : HaveHeld (holds (trees_of l.arena l.conditions)) (has l.fn.values) l.initial.trial l.trial l.place l.turn;
+}
