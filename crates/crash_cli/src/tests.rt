@@ -1,0 +1,351 @@
+//! Whole calls over files and sinks in memory. The digests are those of `sha256sum`.
+
+mod reports;
+
+use crate::tool::run_tool;
+use fault_io::{Bytes, FetchFault, Fetched, FileList, Folder, MemSink, NamedFile, SteadyFolder};
+use std::alloc::{AllocError, Global};
+use std::test::Fail;
+
+const EBREAK: u32 = 0x0010_0073;
+
+/// addi x0,x0,0
+const NOP: u32 = 0x0000_0013;
+
+/// addi x17,x0,93, and the ECALL of an exit
+const EXIT: [u32; 2] = [0x05d0_0893, 0x0000_0073];
+
+/// What stands before the code in a file of one segment at 00010000, but for the two sizes.
+const BEFORE_SIZES: [u8; 68] = [
+    0x7f, b'E', b'L', b'F', 1, 1, 1, 0, 0, 0, 0, 0, 0, 0, 0, 0, // e_ident
+    2, 0, 243, 0, 1, 0, 0, 0, // e_type, e_machine, e_version
+    0, 0, 1, 0, 52, 0, 0, 0, 0, 0, 0, 0, 0, 0, 0, 0, // e_entry, e_phoff, e_shoff, e_flags
+    52, 0, 32, 0, 1, 0, 0, 0, 0, 0, 0, 0, // e_ehsize, e_phentsize, e_phnum, sections
+    1, 0, 0, 0, 84, 0, 0, 0, 0, 0, 1, 0, 0, 0, 1, 0, // p_type, p_offset, p_vaddr, p_paddr
+];
+
+/// A program file with this code.
+fn program(alloc: Global, code: &[u32]) -> Result<Vec<u8>, AllocError> {
+    let mut file = Vec::new(alloc);
+    file.extend_from_slice(&BEFORE_SIZES)?;
+    let size = ((code.len() % 0x1000_0000) as u32 * 4).to_le_bytes();
+    file.extend_from_slice(&size)?;
+    file.extend_from_slice(&size)?;
+    file.extend_from_slice(&[5, 0, 0, 0, 1, 0, 0, 0])?;
+    for word in code {
+        file.extend_from_slice(&word.to_le_bytes())?;
+    }
+    Ok(file)
+}
+
+/// A program file of so many instructions that do nothing, and an EBREAK.
+fn long_program(alloc: Global, nops: usize) -> Result<Vec<u8>, AllocError> {
+    let mut code = vec![in alloc; NOP; nops]?;
+    code.push(EBREAK)?;
+    program(alloc, code.as_slice())
+}
+
+fn named(alloc: Global, name: &str, bytes: Vec<u8>) -> Result<NamedFile, AllocError> {
+    Ok(NamedFile {
+        name: Bytes::from_vec(name.as_bytes().to_vec(alloc)?),
+        bytes: Bytes::from_vec(bytes),
+    })
+}
+
+/// A folder with a program `p` and an input `x`.
+fn folder(alloc: Global, program: Vec<u8>, input: Vec<u8>) -> Result<SteadyFolder, AllocError> {
+    let mut files = Vec::new(alloc);
+    files.push(named(alloc, "p", program)?)?;
+    files.push(named(alloc, "x", input)?)?;
+    Ok(SteadyFolder::new(FileList::from_vec(files)))
+}
+
+/// A call's status, and what it left on out and on err.
+#[derive(Drop)]
+struct Said {
+    status: u8,
+    out: MemSink,
+    err: MemSink,
+}
+
+/// The call on these words, over sinks with so much room.
+fn call<F: Folder>(
+    alloc: Global,
+    words: &[&str],
+    folder: &mut F,
+    out_room: u32,
+    err_room: u32,
+) -> Result<Said, AllocError> {
+    let mut texts = Vec::new(alloc);
+    for word in words {
+        texts.push(String::from_str(alloc, word)?)?;
+    }
+    let mut out = MemSink::new(alloc, out_room)?;
+    let mut err = MemSink::new(alloc, err_room)?;
+    let status = run_tool(alloc, texts.as_slice(), folder, &mut out, &mut err);
+    Ok(Said { status, out, err })
+}
+
+/// Whether just this was said.
+fn is_said(said: &Said, status: u8, out: &[u8], err: &[u8]) -> bool {
+    said.status == status && said.out.as_slice() == out && said.err.as_slice() == err
+}
+
+/// Whether `make p x` on these files says just this.
+fn says(
+    alloc: Global,
+    program: Vec<u8>,
+    input: Vec<u8>,
+    status: u8,
+    out: &[u8],
+    err: &[u8],
+) -> Result<bool, AllocError> {
+    let mut folder = folder(alloc, program, input)?;
+    let said = call(alloc, &["make", "p", "x"], &mut folder, 4096, 4096)?;
+    Ok(is_said(&said, status, out, err))
+}
+
+const EMPTY_INPUT: &[u8] = b"crash-report 1
+program 88 390a3f73c14f9c3f6f57143bc249d0bf4376e93cac08051f350bae53b1d3f283
+trap breakpoint 00010000 00000000
+steps 1
+seed 0
+input 0
+revealed 0 of 0
+end
+";
+
+#[test]
+fn a_breakpoint_on_the_empty_input(rt: HostRuntime) -> Result<(), Fail> {
+    let alloc = rt.alloc();
+    let program = program(alloc, &[EBREAK])?;
+    assert!(rt; says(alloc, program, Vec::new(alloc), 0, EMPTY_INPUT, b"")?);
+    Ok(())
+}
+
+#[test]
+fn an_input_that_is_never_read(rt: HostRuntime) -> Result<(), Fail> {
+    let alloc = rt.alloc();
+    // lui x5,0x12345; addi x5,x5,0x678; ebreak
+    let program = program(alloc, &[0x1234_52b7, 0x6782_8293, EBREAK])?;
+    let input = b"forty bytes of text that nobody may read".to_vec(alloc)?;
+    let report = b"crash-report 1
+program 96 bf611f4db8db5efc5a3a0cdf416b1bc125ffe2466e00944cdfd0cb9a073ce2a4
+trap breakpoint 00010008 00000000
+steps 3
+seed 0
+input 40
+data 0000000000000000000000000000000000000000000000000000000000000000
+data 0000000000000000
+revealed 0 of 320
+end
+";
+    assert!(rt; says(alloc, program, input, 0, report, b"")?);
+    Ok(())
+}
+
+#[test]
+fn an_exit_is_no_crash(rt: HostRuntime) -> Result<(), Fail> {
+    let alloc = rt.alloc();
+    let program = program(alloc, &EXIT)?;
+    assert!(rt; says(alloc, program, Vec::new(alloc), 7, b"", b"no crash\n")?);
+    Ok(())
+}
+
+#[test]
+fn a_breakpoint_on_the_last_step(rt: HostRuntime) -> Result<(), Fail> {
+    let alloc = rt.alloc();
+    let program = long_program(alloc, 999_999)?;
+    let report = b"crash-report 1
+program 4000084 0919870884c0819a1b9346051b1922fded0fbe819121712ac907c8c061db0fc4
+trap breakpoint 003e08fc 00000000
+steps 1000000
+seed 0
+input 0
+revealed 0 of 0
+end
+";
+    assert!(rt; says(alloc, program, Vec::new(alloc), 0, report, b"")?);
+    Ok(())
+}
+
+#[test]
+fn one_step_more_is_still_running(rt: HostRuntime) -> Result<(), Fail> {
+    let alloc = rt.alloc();
+    let program = long_program(alloc, 1_000_000)?;
+    assert!(rt; says(alloc, program, Vec::new(alloc), 8, b"", b"still running\n")?);
+    Ok(())
+}
+
+#[test]
+fn a_file_that_is_no_program(rt: HostRuntime) -> Result<(), Fail> {
+    let alloc = rt.alloc();
+    let short = vec![in alloc; 0u8; 51]?;
+    assert!(rt;
+        says(
+            alloc,
+            short,
+            Vec::new(alloc),
+            6,
+            b"",
+            b"not a program: E1 short\n"
+        )?
+    );
+    let zeros = vec![in alloc; 0u8; 52]?;
+    assert!(rt;
+        says(
+            alloc,
+            zeros,
+            Vec::new(alloc),
+            6,
+            b"",
+            b"not a program: E2 not-elf\n"
+        )?
+    );
+    let mut odd = program(alloc, &[EBREAK])?;
+    if odd.len() > 24 {
+        odd[24] = 2;
+    }
+    assert!(rt;
+        says(
+            alloc,
+            odd,
+            Vec::new(alloc),
+            6,
+            b"",
+            b"not a program: E13 entry\n"
+        )?
+    );
+    Ok(())
+}
+
+#[test]
+fn files_that_are_too_long(rt: HostRuntime) -> Result<(), Fail> {
+    let alloc = rt.alloc();
+    let long = vec![in alloc; 0u8; 16_777_217]?;
+    assert!(rt; says(alloc, long, Vec::new(alloc), 5, b"", b"program too long\n")?);
+    let input = vec![in alloc; 0u8; 65_537]?;
+    assert!(rt;
+        says(
+            alloc,
+            program(alloc, &[EBREAK])?,
+            input,
+            5,
+            b"",
+            b"input too long\n"
+        )?
+    );
+    // At the limits both are read.
+    let longest = vec![in alloc; 0u8; 16_777_216]?;
+    let input = vec![in alloc; 0u8; 65_536]?;
+    assert!(rt;
+        says(
+            alloc,
+            longest,
+            input,
+            6,
+            b"",
+            b"not a program: E2 not-elf\n"
+        )?
+    );
+    Ok(())
+}
+
+#[test]
+fn files_that_are_missing(rt: HostRuntime) -> Result<(), Fail> {
+    let alloc = rt.alloc();
+    let mut folder = folder(alloc, program(alloc, &[EBREAK])?, Vec::new(alloc))?;
+    let said = call(alloc, &["make", "p", "y"], &mut folder, 4096, 4096)?;
+    assert!(rt; is_said(&said, 3, b"", b"cannot read input\n"));
+    let said = call(alloc, &["make", "q", "x"], &mut folder, 4096, 4096)?;
+    assert!(rt; is_said(&said, 3, b"", b"cannot read program\n"));
+    // The empty word is a name too.
+    let said = call(alloc, &["make", "", "x"], &mut folder, 4096, 4096)?;
+    assert!(rt; is_said(&said, 3, b"", b"cannot read program\n"));
+    Ok(())
+}
+
+const USAGE: &[u8] =
+    b"usage: crash_cli ACTION FIRST SECOND [--seed N] [--steps N] [--conflicts N]\n";
+
+#[test]
+fn words_that_are_no_command(rt: HostRuntime) -> Result<(), Fail> {
+    let alloc = rt.alloc();
+    let mut folder = folder(alloc, program(alloc, &[EBREAK])?, Vec::new(alloc))?;
+    let said = call(alloc, &[], &mut folder, 4096, 4096)?;
+    assert!(rt; is_said(&said, 2, b"", USAGE));
+    let said = call(alloc, &["make", "p"], &mut folder, 4096, 4096)?;
+    assert!(rt; is_said(&said, 2, b"", USAGE));
+    let said = call(alloc, &["run", "p", "x"], &mut folder, 4096, 4096)?;
+    assert!(rt; is_said(&said, 2, b"", USAGE));
+    let said = call(alloc, &["make", "p", "x", "x"], &mut folder, 4096, 4096)?;
+    assert!(rt; is_said(&said, 2, b"", USAGE));
+    Ok(())
+}
+
+#[test]
+fn an_out_that_fills_up(rt: HostRuntime) -> Result<(), Fail> {
+    let alloc = rt.alloc();
+    let mut folder = folder(alloc, program(alloc, &[EBREAK])?, Vec::new(alloc))?;
+    for room in [0u32, 1, 20, 167] {
+        let said = call(alloc, &["make", "p", "x"], &mut folder, room, 4096)?;
+        assert!(rt; is_said(&said, 4, &EMPTY_INPUT[..room as usize], b"cannot write\n"));
+    }
+    let said = call(alloc, &["make", "p", "x"], &mut folder, 168, 0)?;
+    assert!(rt; is_said(&said, 0, EMPTY_INPUT, b""));
+    Ok(())
+}
+
+#[test]
+fn an_err_that_fills_up(rt: HostRuntime) -> Result<(), Fail> {
+    let alloc = rt.alloc();
+    let mut folder = folder(alloc, program(alloc, &EXIT)?, Vec::new(alloc))?;
+    let said = call(alloc, &["make", "p", "x"], &mut folder, 4096, 0)?;
+    assert!(rt; is_said(&said, 7, b"", b""));
+    let said = call(alloc, &["make", "p", "x"], &mut folder, 4096, 5)?;
+    assert!(rt; is_said(&said, 7, b"", b"no cr"));
+    Ok(())
+}
+
+/// A folder that tells nothing: its first fetch gives the program, and every later one fails.
+#[derive(Drop)]
+struct FailingFolder {
+    program: Vec<u8>,
+    fetched: bool,
+    faults: u64,
+}
+
+impl Folder for FailingFolder {
+    ghost use Rattle.std.specs.Prelude.{None};
+
+    ghost files = { λ _. None };
+
+    ghost faults = { λ folder. folder.faults };
+
+    fn fetch(&mut self, alloc: Global, _name: &str, limit: u32) -> Result<Fetched, FetchFault> {
+        if self.fetched {
+            self.faults = self.faults.saturating_add(1);
+            return Err(FetchFault::Failed);
+        }
+        self.fetched = true;
+        if self.program.len() > limit as usize {
+            return Ok(Fetched::TooLong);
+        }
+        Ok(Fetched::Whole(Bytes::from_vec(self.program.as_slice().to_vec(alloc)?)))
+    }
+}
+
+#[test]
+fn a_read_that_fails(rt: HostRuntime) -> Result<(), Fail> {
+    let alloc = rt.alloc();
+    let mut folder = FailingFolder {
+        program: program(alloc, &[EBREAK])?,
+        fetched: false,
+        faults: 0,
+    };
+    let said = call(alloc, &["make", "p", "x"], &mut folder, 4096, 4096)?;
+    assert!(rt; is_said(&said, 3, b"", b"cannot read input\n"));
+    let said = call(alloc, &["make", "p", "x"], &mut folder, 4096, 4096)?;
+    assert!(rt; is_said(&said, 3, b"", b"cannot read program\n"));
+    Ok(())
+}

@@ -1,0 +1,17 @@
+use Rattle.group_model.specs.Division.{AreGroups}
+use Rattle.trace_conditions.specs.Conditions.{conditions_of}
+use Rattle.report_maker.specs.Divided.{program_of, AreDivided}
+use Rattle.report_maker.proofs.MadeLemmas.{listed_are_conditions, divided_from, value_has}
+use Rattle.report_maker.proofs.maker.divide.Goals as goal
+
+pub groups-requires : goal.groups-requires
+groups-requires c =
+    listed_are_conditions (program_of c.args.image.now) c.args.transcript.now c.replay.new.arena c.list.result.now c.in_ok-conditions.conditions c.list.ensures.list c.in_ok-conditions.ensures.trees
+    (c.in_ok-conditions.ensures.proper c.requires.traced.0 c.requires.traced.1 c.requires.program c.requires.traced.2) c.in_ok-conditions.ensures.listed
+
+pub returns : goal.returns
+returns c =
+    value_has c.groups.result (AreGroups c.replay.new.arena c.list.result.now) (AreDivided c.replay.new.arena (conditions_of (program_of c.args.image.now) c.args.transcript.now) c.args.transcript.now.n)
+    (divided_from (program_of c.args.image.now) c.args.transcript.now c.replay.new.arena c.list.result.now c.in_ok-conditions.conditions c.list.ensures.list c.in_ok-conditions.ensures.trees
+    (c.in_ok-conditions.ensures.proper c.requires.traced.0 c.requires.traced.1 c.requires.program c.requires.traced.2) c.in_ok-conditions.ensures.listed)
+    c.groups.ensures

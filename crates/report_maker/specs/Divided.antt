@@ -1,0 +1,27 @@
+-- The conditions of a trace as terms of an arena, divided into groups.
+use Rattle.std.specs.Prelude.{◌≡◌, ℕ, Bool, List, length, nat_lt, All}
+use Rattle.std.specs.List.{list_any}
+use Rattle.elf32.specs.declared.image.Image.{Image}
+use Rattle.elf32.specs.Loads.{Program}
+use Rattle.term_model.specs.Tree.{Tree}
+use Rattle.term_model.specs.Places.{ReadsBelow}
+use Rattle.term_arena.specs.Trees.{tree_of}
+use Rattle.group_model.specs.declared.Group.{Group}
+use Rattle.group_model.specs.Conditions.{IsCondition, trees_of}
+use Rattle.group_model.specs.Division.{AreGroups}
+
+-- the program of an image
+abbrev pub program_of : Image → Program
+program_of image = record { entry = image.entry; segments = image.segments }
+
+-- the groups are those of some terms of the arena, whose trees are the conditions: truth terms that read places below n
+pub record AreDivided (trees conditions : List Tree) (n : ℕ) (groups : List Group) : Type 0 where
+  pub terms : List ℕ
+  pub trees_are : trees_of trees terms ≡ conditions
+  pub proper : All (IsCondition trees) terms
+  pub below : All (λ t. ReadsBelow n (tree_of trees t)) terms
+  pub are : AreGroups trees terms groups
+
+-- some group has more than two places
+abbrev pub some_is_wide : List Group → Bool
+some_is_wide groups = list_any (λ g. nat_lt 2 (length g.places)) groups

@@ -1,0 +1,12 @@
+//! Making a report: of a program and the trace of a run on some input, and never of the input.
+#![tactic(auto)]
+
+mod error;
+mod fill;
+pub mod laws;
+mod maker;
+mod mask;
+
+pub use error::MakeError;
+pub use maker::make_report;
+pub use mask::order_mask;
