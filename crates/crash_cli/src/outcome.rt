@@ -37,7 +37,7 @@ fn by_trap(
     ensures kind { IfOk result IsOfFiles }
 {
     match make_report(alloc, image, program, transcript, trap, options.seed) {
-        Ok(report) => Ok(Answer::Text(write_report(alloc, &report)?)),
+        Ok(made) => Ok(Answer::Text(write_report(alloc, &made.report)?)),
         Err(MakeError::Wide) => Ok(Answer::Refused(Refusal::NotBuilt)),
         Err(MakeError::NoMemory) => Err(AllocError),
     }

@@ -8,7 +8,7 @@ use Rattle.rv_event.specs.declared.transcript.Transcript.{Transcript}
 use Rattle.rv_machine.specs.Class.{in_class}
 use Rattle.replay_law.specs.Crash.{IsCrash}
 use Rattle.trace_conditions.specs.Conditions.{conditions_of}
-use Rattle.group_laws.specs.Links.{has_wide_group, sets_by_links}
+use Rattle.group_laws.specs.Groups.{groups_of, has_wide_group, sets_by_groups}
 use Rattle.input_laws.specs.Order.{first}
 use Rattle.report_format.specs.Text.{Content}
 use Rattle.report_maker.specs.Mask.{mask}
@@ -27,9 +27,13 @@ first_input program seed limit t = unwrap_or (first (mask seed t.n) (in_class pr
 
 -- for each byte of that input, the values that it may take beside the others with the trace staying the same
 abbrev pub sets_of : Program → ℕ → ℕ → Transcript → List (ℕ → Bool)
-sets_of program seed limit t = sets_by_links (in_class program limit t) (conditions_of program t) (first_input program seed limit t)
+sets_of program seed limit t = sets_by_groups (in_class program limit t) (conditions_of program t) (first_input program seed limit t)
 
--- some byte of the input is linked by the trace's conditions with two others
+-- how many groups of the input's bytes the trace's conditions make
+abbrev pub number_of_groups : Program → Transcript → ℕ
+number_of_groups program t = length (groups_of (conditions_of program t) t.n)
+
+-- some group has more than two bytes
 abbrev pub is_wide : Program → Transcript → Bool
 is_wide program t = has_wide_group (conditions_of program t) t.n
 

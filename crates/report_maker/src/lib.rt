@@ -8,5 +8,5 @@ mod maker;
 mod mask;
 
 pub use error::MakeError;
-pub use maker::make_report;
+pub use maker::{Made, make_report};
 pub use mask::order_mask;

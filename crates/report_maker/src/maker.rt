@@ -8,7 +8,7 @@ ghost use Rattle.input_laws.specs.Sets.{size};
 ghost use Rattle.byte_sets.specs.ByteSet.{has};
 ghost use Rattle.report_format.specs.Text.{content_of};
 ghost use Rattle.report_maker.specs.Divided.{program_of, AreDivided, some_is_wide};
-ghost use Rattle.report_maker.specs.Made.{IsCrashBy, is_wide, report_of};
+ghost use Rattle.report_maker.specs.Made.{IsCrashBy, is_wide, number_of_groups, report_of};
 
 use crate::error::MakeError;
 use crate::fill::fill_all;
@@ -23,6 +23,16 @@ use std::alloc::{AllocError, Global};
 use sym_replay::replay;
 use term_arena::Arena;
 use trace_conditions::conditions_hold_of_the_class;
+
+/// A report, and how its bytes were divided.
+#[derive(Drop)]
+pub struct Made {
+    /// The report.
+    pub report: Report,
+    /// The number of groups of bytes that the conditions of the trace tie together, those of one
+    /// byte among them: 0 to 65,536. A byte that no condition reads is in no group.
+    pub groups: u32,
+}
 
 /// Whether some group has more than two places.
 fn has_wide_group(groups: &[Group]) -> bool
@@ -58,20 +68,21 @@ pub fn make_report(
     transcript: &Transcript,
     trap: Trap,
     seed: u64,
-) -> Result<Report, MakeError>
+) -> Result<Made, MakeError>
     requires short { length program.now ≤ 16777216 }
     requires few { transcript.now.n ≤ 65536 }
     requires events { length transcript.now.events < 2 ^ 32 }
     requires entry { image.now.entry ≡ (image_of program.now).entry }
     requires segments { image.now.segments ≡ (image_of program.now).segments }
     requires traced { IsCrashBy (image_of program.now) transcript.now trap }
-    ensures report { IfOk result (λ report. (limit : ℕ) (x : List ℕ) → IsCrash (image_of program.now) limit x transcript.now →
-        content_of report ≡ report_of program.now seed limit transcript.now trap) }
+    ensures report { IfOk result (λ made. (limit : ℕ) (x : List ℕ) → IsCrash (image_of program.now) limit x transcript.now →
+        content_of made.report ≡ report_of program.now seed limit transcript.now trap) }
+    ensures groups { IfOk result (λ made. made.groups ≡ number_of_groups (image_of program.now) transcript.now) }
     ensures narrow { IfOk result (λ _. is_wide (image_of program.now) transcript.now ≡ false) }
     ensures wide { result ≡ Err MakeError.Wide → is_wide (image_of program.now) transcript.now ≡ true }
-    ensures input { IfOk result (λ report. length report.input ≡ transcript.now.n) }
-    ensures sets { IfOk result (λ report. length report.sets ≡ transcript.now.n) }
-    ensures filled { IfOk result (λ report. All (λ set. 0 < size (has set)) report.sets) }
+    ensures input { IfOk result (λ made. length made.report.input ≡ transcript.now.n) }
+    ensures sets { IfOk result (λ made. length made.report.sets ≡ transcript.now.n) }
+    ensures filled { IfOk result (λ made. All (λ set. 0 < size (has set)) made.report.sets) }
 {
     let mut arena = Arena::new(alloc)?;
     let groups = divide(alloc, image, transcript, &mut arena)?;
@@ -81,7 +92,7 @@ pub fn make_report(
     conditions_hold_of_the_class();
     let mask = order_mask(alloc, seed, transcript.n)?;
     let (input, sets) = fill_all(alloc, &arena, groups.as_slice(), mask.as_slice())?;
-    Ok(Report {
+    let report = Report {
         length: program.len() as u32,
         digest: Sha256::digest(program),
         trap,
@@ -89,5 +100,9 @@ pub fn make_report(
         seed,
         input: Bytes::from_vec(input),
         sets: Sets::from_vec(sets),
+    };
+    Ok(Made {
+        report,
+        groups: groups.as_slice().len() as u32,
     })
 }
