@@ -31,6 +31,10 @@ pub record Program : Type 0 where
   pub entry : ℕ
   pub segments : List Segment
 
+-- an image as a program
+abbrev pub program_of : Image → Program
+program_of image = record { entry = image.entry; segments = image.segments }
+
 -- what a file loads: its entry point, and its segments in ascending order of base
 abbrev pub image_of : List ℕ → Program
 image_of bytes = record { entry = e_entry bytes; segments = in_order (segments_of bytes (headers bytes)) }

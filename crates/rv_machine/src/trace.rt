@@ -1,6 +1,7 @@
 //! Whole runs.
 
 ghost use Rattle.std.specs.Prelude.{◌≡◌, ◌≤◌, false, length, IfOk};
+ghost use Rattle.elf32.specs.Loads.{program_of};
 ghost use Rattle.rv_machine.specs.Trace.{trace, state_after, transcript_of, has_ended};
 
 use crate::machine::Machine;
@@ -88,7 +89,7 @@ pub fn trace_of(
     limit: u32,
 ) -> Result<Transcript, AllocError>
     requires { length input.now ≤ 65536 }
-    ensures run { IfOk result (λ t. t ≡ transcript_of (record { entry = image.now.entry; segments = image.now.segments }) input.now limit) }
+    ensures run { IfOk result (λ t. t ≡ transcript_of (program_of image.now) input.now limit) }
     ensures length { IfOk result (λ t. length t.events ≤ limit) }
 {
     let machine = Machine::start(alloc, image)?;
