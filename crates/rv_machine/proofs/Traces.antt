@@ -3,7 +3,7 @@ use Rattle.std.proofs.Common.{◌≡◌, ℕ, zero, suc, ◌≤◌, List, [], �
 use Rattle.rv_event.specs.declared.event.Event.{Event}
 use Rattle.rv_event.specs.declared.event.End.{End}
 use Rattle.rv_event.specs.declared.event.End.TheVariants as ends
-use Rattle.elf32.specs.declared.segments.Segment.{Segment}
+use Rattle.elf32.specs.Loads.{Program}
 use Rattle.rv_event.specs.declared.transcript.Transcript.{Transcript}
 use Rattle.rv_machine.specs.State.{State, Next, Goes, Ends, start}
 use Rattle.rv_machine.specs.Effects.{step}
@@ -85,12 +85,12 @@ trace_length zero x s = omega arith
 trace_length (suc n) x s = (let h : length (onward (trace n x) (step x s).next).events ≤ n = onward_length n (trace n x) (step x s).next (λ t. trace_length n x t) in omega arith)
 
 -- the parts of what a run tells
-pub tells : {E : Type 0} → (entry : ℕ) (segments : List Segment) (x : List ℕ) (n : ℕ) (s : State) (r : Result Transcript E) → s ≡ start entry segments → IfOk r (λ t. t.n ≡ length x) → IfOk r (λ t. t.events ≡ (trace n x s).events) → IfOk r (λ t. t.end ≡ (trace n x s).end) → IfOk r (λ t. t ≡ transcript_of (record { entry = entry; segments = segments }) x n)
+pub tells : {E : Type 0} → (program : Program) (x : List ℕ) (n : ℕ) (s : State) (r : Result Transcript E) → s ≡ start program.entry program.segments → IfOk r (λ t. t.n ≡ length x) → IfOk r (λ t. t.events ≡ (trace n x s).events) → IfOk r (λ t. t.end ≡ (trace n x s).end) → IfOk r (λ t. t ≡ transcript_of program x n)
 unfolding transcript_of
-tells entry segments x n s (Ok t) e size events end =
-    let run : trace n x s ≡ run_of (record { entry = entry; segments = segments }) x n = ap (trace n x) e in
+tells program x n s (Ok t) e size events end =
+    let run : trace n x s ≡ run_of program x n = ap (trace n x) e in
     (λ i. record { n = size i; events = (events ∙ ap (λ h. h.events) run) i; end = (end ∙ ap (λ h. h.end) run) i })
-tells entry segments x n s (Err f) e size events end = tt
+tells program x n s (Err f) e size events end = tt
 
 pub tells_length : {E : Type 0} → (x : List ℕ) (n : ℕ) (s : State) (r : Result Transcript E) → IfOk r (λ t. t.events ≡ (trace n x s).events) → IfOk r (λ t. length t.events ≤ n)
 tells_length x n s (Ok t) events = omega (arith, trace_length n x s, ap length events)
