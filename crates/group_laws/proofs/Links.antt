@@ -9,9 +9,8 @@ use Rattle.std.proofs.lemmas.Bool.Decides.{nat_tests}
 use Rattle.term_model.specs.Tree.{Tree}
 use Rattle.term_model.specs.Places.{reads, ReadsBelow}
 use Rattle.term_model.proofs.PlaceLemmas.{reads_are_below}
-use Rattle.term_arena.specs.Trees.{tree_of}
+use Rattle.term_arena.specs.Trees.{tree_of, trees_of}
 use Rattle.group_model.specs.declared.Group.{Group}
-use Rattle.group_model.specs.Conditions.{trees_of}
 use Rattle.group_model.specs.Division.{AreGroups}
 use Rattle.group_laws.specs.Links.{linked, joins, has_wide_group}
 use Rattle.group_laws.proofs.Lists.{any_here, any_found, Found, contains_first, contains_later, apart_at}

@@ -1,20 +1,19 @@
 -- The groups of conditions as parts of the input, and what is first in each.
-use Rattle.std.proofs.Common.{◌≡◌, ℕ, ◌-◌, ◌<◌, ◌≤◌, ◌^◌, inl, inr, ◌↔◌, Bool, true, List, length, refl, arith}
+use Rattle.std.proofs.Common.{◌≡◌, ℕ, ◌-◌, ◌<◌, ◌≤◌, ◌^◌, ◌↔◌, Bool, true, List, length, refl, arith}
 use Rattle.std.specs.Prelude.{All, Contains, slice_index, IsTrue, IsFalse}
-use Rattle.std.proofs.lemmas.List.{get_or_past}
 use Rattle.std.proofs.lemmas.List.Elements.{All-contains}
-use Rattle.std.proofs.lemmas.Bool.{cases_lt, both_ways, false_from_ne_true}
+use Rattle.std.proofs.lemmas.Bool.{both_ways, false_from_ne_true}
 use Rattle.term_model.specs.Tree.{Tree}
 use Rattle.term_model.specs.Value.{val}
 use Rattle.term_model.specs.Places.{reads, ReadsBelow}
-use Rattle.term_model.specs.Words.{AreBytes}
-use Rattle.term_arena.specs.Trees.{tree_of}
+use Rattle.term_model.specs.Conditions.{Hold}
+use Rattle.term_arena.specs.Trees.{tree_of, trees_of}
 use Rattle.input_laws.specs.Inputs.{IsInput}
 use Rattle.input_laws.specs.Order.{IsFirst}
 use Rattle.input_laws.specs.Parts.{Part, LooksAtItsPlaces, TakesFirstOf, IsByParts, IsFree}
 use Rattle.input_laws.proofs.Parts.{first_from_parts}
 use Rattle.group_model.specs.declared.Group.{Group}
-use Rattle.group_model.specs.Conditions.{Hold, trees_of, IsCondition}
+use Rattle.group_model.specs.Conditions.{IsCondition}
 use Rattle.group_model.specs.Group.{is_among, part_of, IsGroup}
 use Rattle.group_model.specs.Division.{IsGrouped, AreGroups}
 use Rattle.group_model.proofs.HoldLemmas.{held, passed, holds_alike, found_among, among_found}
@@ -44,13 +43,6 @@ free_place trees groups i = (
   λ free grouped. both_ways (is_among grouped.0.places i) (all_at_map (λ p. IsFalse (p.places i)) (part trees) groups grouped.0 free grouped.1) (found_among grouped.0.places i grouped.2),
   λ none. all_map_from (λ p. IsFalse (p.places i)) (part trees) groups (λ g cg. false_from_ne_true (is_among g.places i) (λ t. none (g, cg, among_found g.places i t))),
 )
-
--- the numbers of an input are bytes, also past its end
-pub bytes_of_input : (n : ℕ) (y : List ℕ) → IsInput n y → AreBytes y
-bytes_of_input n y a i = elim (cases_lt i (length y)) [
-  | inl l ↦ a.in_range i 0 l
-  | inr past ↦ let e : slice_index y i ≡ 0 = get_or_past y i 0 past in omega arith
-]
 
 module _ (trees : List Tree) (terms : List ℕ) (groups : List Group) (are : AreGroups trees terms groups) where
   -- where all conditions hold, those of a group do

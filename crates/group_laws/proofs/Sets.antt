@@ -9,8 +9,9 @@ use Rattle.std.proofs.lemmas.List.Sums.{list_all-from_AllPass}
 use Rattle.std.proofs.lemmas.Bool.{and_parts, and_from, cases_Bool, cases_lt, both_ways, false_from_ne_true, true_from_ne_false, ltb-true, lt-ltb}
 use Rattle.term_model.specs.Tree.{Tree}
 use Rattle.term_model.specs.Places.{reads, ReadsBelow}
+use Rattle.term_model.specs.Conditions.{holds}
 use Rattle.term_model.proofs.PlaceLemmas.{value_follows}
-use Rattle.term_arena.specs.Trees.{tree_of}
+use Rattle.term_arena.specs.Trees.{tree_of, trees_of}
 use Rattle.input_laws.specs.Inputs.{IsInput, bytes, class_size}
 use Rattle.input_laws.specs.Parts.{IsByParts, KeepPart}
 use Rattle.input_laws.specs.Sets.{IsChoice, set_at, size, freed, revealed}
@@ -21,7 +22,7 @@ use Rattle.input_laws.proofs.Freed.{filled}
 use Rattle.input_laws.proofs.Narrow.{only_keeps, pair_keeps}
 use Rattle.input_laws.proofs.Parts.{choices_by_parts}
 use Rattle.group_model.specs.declared.Group.{Group}
-use Rattle.group_model.specs.Conditions.{holds, trees_of, IsCondition}
+use Rattle.group_model.specs.Conditions.{IsCondition}
 use Rattle.group_model.specs.Division.{IsGrouped, AreGroups}
 use Rattle.group_model.proofs.HoldLemmas.{held, passed, found_among, among_found}
 use Rattle.group_laws.specs.Links.{linked, has_wide_group, lower_of, values_beside, values_at, sets_by_links}

@@ -6,10 +6,10 @@ use Rattle.std.proofs.lemmas.List.{ext_get_or}
 use Rattle.std.proofs.lemmas.List.Elements.{All-contains}
 use Rattle.std.proofs.lemmas.Bool.{cases_Bool, cases_lt, cases_order, both_ways}
 use Rattle.term_model.specs.Tree.{Tree}
+use Rattle.term_arena.specs.Trees.{trees_of}
 use Rattle.input_laws.specs.Inputs.{IsInput}
 use Rattle.input_laws.specs.Sets.{set_at}
 use Rattle.group_model.specs.declared.Group.{Group}
-use Rattle.group_model.specs.Conditions.{trees_of}
 use Rattle.group_model.specs.Group.{is_among}
 use Rattle.group_model.specs.Division.{IsGrouped, AreGroups}
 use Rattle.group_model.proofs.HoldLemmas.{found_among, among_found}

@@ -1,12 +1,13 @@
 -- The groups of conditions as the parts of an input.
 use Rattle.std.specs.Prelude.{◌≡◌, ◌↔◌, ℕ, Bool, List, length, map, slice_index, IsTrue}
 use Rattle.term_model.specs.Tree.{Tree}
+use Rattle.term_model.specs.Conditions.{Hold, holds}
+use Rattle.term_arena.specs.Trees.{trees_of}
 use Rattle.input_laws.specs.Inputs.{IsInput}
 use Rattle.input_laws.specs.Parts.{Part}
 use Rattle.input_laws.specs.Sets.{set_at, freed}
 use Rattle.input_laws.specs.Narrow.{freed_beside}
 use Rattle.group_model.specs.declared.Group.{Group}
-use Rattle.group_model.specs.Conditions.{Hold, holds, trees_of}
 use Rattle.group_model.specs.Group.{part_of, HasAt, IsGroupFirst}
 
 -- an input of n bytes is a member exactly where the conditions hold of it

@@ -12,14 +12,15 @@ ghost use Rattle.std.specs.Prelude.{◌≡◌, ◌*◌, ◌^◌, ◌<◌, ◌≤
 ghost use Rattle.term_model.specs.Tree.{Tree};
 ghost use Rattle.term_model.specs.Places.{ReadsBelow};
 ghost use Rattle.term_model.specs.Words.{AreBytes};
-ghost use Rattle.term_arena.specs.Trees.{tree_of};
+ghost use Rattle.term_model.specs.Conditions.{Hold, holds};
+ghost use Rattle.term_arena.specs.Trees.{tree_of, trees_of};
 ghost use Rattle.input_laws.specs.Inputs.{IsInput, class_size};
 ghost use Rattle.input_laws.specs.Order.{IsFirst, first};
 ghost use Rattle.input_laws.specs.Sets.{IsChoice, size, set_at, freed, revealed};
 ghost use Rattle.input_laws.specs.Narrow.{freed_beside};
 ghost use Rattle.input_laws.specs.Parts.{LooksAtItsPlaces, IsByParts, IsFree};
 ghost use Rattle.group_model.specs.declared.Group.{Group};
-ghost use Rattle.group_model.specs.Conditions.{Hold, holds, trees_of, IsCondition};
+ghost use Rattle.group_model.specs.Conditions.{IsCondition};
 ghost use Rattle.group_model.specs.Group.{IsGroup};
 ghost use Rattle.group_model.specs.Division.{IsGrouped, AreGroups};
 ghost use Rattle.group_laws.specs.Links.{has_wide_group, values_at, sets_by_links};

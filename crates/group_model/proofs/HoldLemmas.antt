@@ -8,9 +8,9 @@ use Rattle.std.proofs.lemmas.Bool.Decides.{nat_tests}
 use Rattle.term_model.specs.Tree.{Tree}
 use Rattle.term_model.specs.Value.{val}
 use Rattle.term_model.specs.Places.{AreAlikeFor}
+use Rattle.term_model.specs.Conditions.{holds}
 use Rattle.term_model.proofs.PlaceLemmas.{value_follows}
-use Rattle.term_arena.specs.Trees.{tree_of}
-use Rattle.group_model.specs.Conditions.{holds, trees_of}
+use Rattle.term_arena.specs.Trees.{tree_of, trees_of}
 use Rattle.group_model.specs.Group.{is_among}
 
 -- numbers that the test finds equal are equal

@@ -3,10 +3,11 @@ use Rattle.std.specs.Prelude.{◌≡◌, ℕ, ◌<◌, ◌^◌, List, Bool, true
 use Rattle.std.specs.List.{list_any}
 use Rattle.term_model.specs.Tree.{Tree}
 use Rattle.term_model.specs.Places.{reads}
+use Rattle.term_model.specs.Conditions.{holds}
 use Rattle.term_arena.specs.Trees.{tree_of}
 use Rattle.input_laws.specs.Inputs.{IsInput}
 use Rattle.input_laws.specs.Parts.{Part, IsFirstOf}
-use Rattle.group_model.specs.Conditions.{holds, IsCondition}
+use Rattle.group_model.specs.Conditions.{IsCondition}
 
 -- the numbers stand in order, each once
 abbrev pub IsAscending : List ℕ → Type 0

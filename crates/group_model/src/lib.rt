@@ -9,8 +9,8 @@
 ghost use Rattle.std.specs.Prelude.{◌≡◌, ◌↔◌, ℕ, List, true, IsTrue, All, Contains};
 ghost use Rattle.term_model.specs.Tree.{Tree};
 ghost use Rattle.term_model.specs.Places.{reads};
+ghost use Rattle.term_model.specs.Conditions.{Hold, holds};
 ghost use Rattle.input_laws.specs.Parts.{LooksAtItsPlaces};
-ghost use Rattle.group_model.specs.Conditions.{Hold, holds};
 ghost use Rattle.group_model.specs.Group.{is_among, part_of};
 
 use std::marker::Model;

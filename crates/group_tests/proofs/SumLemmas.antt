@@ -8,8 +8,9 @@ use Rattle.term_model.specs.Truth.{is_truth}
 use Rattle.term_model.specs.Value.{val}
 use Rattle.term_model.specs.Places.{reads}
 use Rattle.term_model.specs.Words.{AreBytes}
-use Rattle.term_arena.specs.Trees.{tree_of, Extends}
-use Rattle.group_model.specs.Conditions.{IsCondition, Hold, trees_of}
+use Rattle.term_model.specs.Conditions.{Hold}
+use Rattle.term_arena.specs.Trees.{tree_of, Extends, trees_of}
+use Rattle.group_model.specs.Conditions.{IsCondition}
 use Rattle.group_model.specs.Group.{IsAscending, IsGroup, HasAt}
 use Rattle.group_tests.specs.Sums.{sum_byte, IsTermOf}
 

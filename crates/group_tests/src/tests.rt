@@ -1,7 +1,8 @@
 ghost use Rattle.std.specs.Prelude.{◌≡◌, ◌<◌, [], ◌∷◌, true, length, IfOk};
 ghost use Rattle.term_model.specs.Places.{reads};
-ghost use Rattle.term_arena.specs.Trees.{tree_of, Extends};
-ghost use Rattle.group_model.specs.Conditions.{IsCondition, Hold, trees_of};
+ghost use Rattle.term_model.specs.Conditions.{Hold};
+ghost use Rattle.term_arena.specs.Trees.{tree_of, Extends, trees_of};
+ghost use Rattle.group_model.specs.Conditions.{IsCondition};
 ghost use Rattle.group_model.specs.Group.{IsGroup};
 ghost use Rattle.group_tests.specs.Sums.{whole_sum, sum_byte, IsTermOf};
 

@@ -3,8 +3,8 @@
 
 ghost use Rattle.std.specs.Prelude.{◌≡◌, ◌<◌, ◌≤◌, ◌↔◌, length, All, IsTrue};
 ghost use Rattle.term_model.specs.Places.{ReadsBelow};
-ghost use Rattle.term_arena.specs.Trees.{tree_of};
-ghost use Rattle.group_model.specs.Conditions.{Hold, holds, trees_of};
+ghost use Rattle.term_model.specs.Conditions.{Hold, holds};
+ghost use Rattle.term_arena.specs.Trees.{tree_of, trees_of};
 
 use group_model::conditions_hold_by_test;
 use term_arena::{Arena, Scratch, Term};

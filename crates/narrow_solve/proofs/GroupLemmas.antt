@@ -8,6 +8,7 @@ use Rattle.std.proofs.lemmas.Bool.{cases_lt}
 use Rattle.std.proofs.lemmas.List.Elements.{All-map}
 use Rattle.term_model.specs.Tree.{Tree}
 use Rattle.term_model.specs.Words.{AreBytes}
+use Rattle.term_arena.specs.Trees.{tree_of, trees_of}
 use Rattle.input_laws.specs.Inputs.{bytes}
 use Rattle.input_laws.specs.Order.{SameOn, ComesBeforeOn}
 use Rattle.input_laws.specs.Parts.{LooksAtItsPlaces}
@@ -15,9 +16,8 @@ use Rattle.input_laws.specs.Sets.{freed}
 use Rattle.input_laws.specs.Narrow.{freed_beside}
 use Rattle.input_laws.proofs.Order.{same_from_xor}
 use Rattle.term_model.specs.Places.{reads, ReadsBelow}
+use Rattle.term_model.specs.Conditions.{Hold, holds}
 use Rattle.term_model.proofs.PlaceLemmas.{below_by_reads}
-use Rattle.term_arena.specs.Trees.{tree_of}
-use Rattle.group_model.specs.Conditions.{Hold, holds, trees_of}
 use Rattle.group_model.specs.Group.{is_among, part_of, IsGroup, IsGroupFirst}
 use Rattle.group_model.proofs.HoldLemmas.{among_found, found_among, holds_alike, passed}
 use Rattle.narrow_solve.proofs.ValueLemmas.{freed_beside_known, freed_passes}

@@ -7,10 +7,11 @@ mod trial;
 
 ghost use Rattle.std.specs.Prelude.{◌≡◌, ◌<◌, ◌≤◌, ℕ, List, [], ◌∷◌, length, map, take, slice_index, nat_lt, All};
 ghost use Rattle.term_model.specs.Words.{AreBytes};
+ghost use Rattle.term_model.specs.Conditions.{Hold, holds};
+ghost use Rattle.term_arena.specs.Trees.{trees_of};
 ghost use Rattle.input_laws.specs.Sets.{freed};
 ghost use Rattle.input_laws.specs.Narrow.{freed_beside};
 ghost use Rattle.byte_sets.specs.ByteSet.{has};
-ghost use Rattle.group_model.specs.Conditions.{Hold, holds, trees_of};
 ghost use Rattle.group_model.specs.Group.{IsGroup, HasAt, IsGroupFirst};
 
 use byte_sets::ByteSet;

@@ -1,7 +1,8 @@
 //! The groups of one comparison.
 
 ghost use Rattle.std.specs.Prelude.{◌≡◌, [], ◌∷◌, IfOk};
-ghost use Rattle.group_model.specs.Conditions.{Hold, trees_of};
+ghost use Rattle.term_model.specs.Conditions.{Hold};
+ghost use Rattle.term_arena.specs.Trees.{trees_of};
 ghost use Rattle.group_model.specs.Group.{IsGroup};
 
 use crate::{first_narrow, narrow_sets};

@@ -3,12 +3,12 @@
 ghost use Rattle.std.specs.Prelude.{◌≡◌, ◌<◌, ◌≤◌, ◌≢◌, ℕ, filter, length, slice_index, slice_set, All, IsTrue, MatchOption, IfSome};
 ghost use Rattle.std.specs.List.{list_all};
 ghost use Rattle.term_model.specs.Places.{ReadsBelow};
-ghost use Rattle.term_arena.specs.Trees.{tree_of};
+ghost use Rattle.term_model.specs.Conditions.{holds};
+ghost use Rattle.term_arena.specs.Trees.{tree_of, trees_of};
 ghost use Rattle.input_laws.specs.Inputs.{bytes};
 ghost use Rattle.input_laws.specs.Sets.{freed};
 ghost use Rattle.input_laws.specs.Narrow.{freed_beside};
 ghost use Rattle.byte_sets.specs.ByteSet.{has};
-ghost use Rattle.group_model.specs.Conditions.{holds, trees_of};
 ghost use Rattle.narrow_solve.specs.Tried.{NoneAt, IsFirstAt, with_pair, NoPairAt, IsFirstPair};
 
 use byte_sets::ByteSet;

@@ -5,10 +5,11 @@ use Rattle.std.proofs.lemmas.Bool.{eqb-true, eqb-false}
 use Rattle.term_model.specs.Tree.{Tree, Const}
 use Rattle.term_model.specs.Value.{val}
 use Rattle.term_model.specs.Same.{same_tree}
-use Rattle.term_arena.specs.Trees.{tree_of, Extends, IsShared}
-use Rattle.replay_law.specs.Forms.{Hold, with_condition, with_conditions}
-use Rattle.replay_law.proofs.Held.{hold_both}
-use Rattle.path_condition.specs.Listed.{trees_of, Belong, is_listed}
+use Rattle.term_model.specs.Conditions.{Hold}
+use Rattle.term_model.proofs.HoldLemmas.{hold_one, hold_both, first_holds, others_hold}
+use Rattle.term_arena.specs.Trees.{tree_of, Extends, IsShared, trees_of}
+use Rattle.replay_law.specs.Forms.{with_condition, with_conditions}
+use Rattle.path_condition.specs.Listed.{Belong, is_listed}
 
 -- what belongs of a list belongs of its first term and of the others
 pub first_belongs : (trees : List Tree) (t : ℕ) (ts : List ℕ) → Belong trees (t ∷ ts) → t < length trees
@@ -138,22 +139,22 @@ next_added trees base now new terms k t lt item before e =
     ∙ ap (λ j. with_conditions base (trees_of trees (take j terms))) (sym next)
 
 -- conditions that hold, one more of which holds
-pub next_holds : (y : List ℕ) (trees : List Tree) (terms : List ℕ) (k t : ℕ) → k < length terms → t ≡ slice_index_or terms k t → Hold y (trees_of trees (take k terms)) → val (tree_of trees t) y ≡ 1 → Hold y (trees_of trees (take (k + 1) terms))
+pub next_holds : (y : List ℕ) (trees : List Tree) (terms : List ℕ) (k t : ℕ) → k < length terms → t ≡ slice_index_or terms k t → Hold (trees_of trees (take k terms)) y → val (tree_of trees t) y ≡ 1 → Hold (trees_of trees (take (k + 1) terms)) y
 next_holds y trees terms k t lt item before e =
     let next : k + 1 ≡ suc k = omega arith in
-    let both = hold_both y (trees_of trees (take k terms)) (tree_of trees t ∷ []) before (e, tt) in
+    let both = hold_both y (trees_of trees (take k terms)) (tree_of trees t ∷ []) before (hold_one y (tree_of trees t) e) in
     let there : trees_of trees (take k terms) ++ tree_of trees t ∷ [] ≡ trees_of trees (take (k + 1) terms) =
     sym (trees_of-end trees (take k terms) t)
     ∙ ap (λ u. trees_of trees (take k terms ++ u ∷ [])) item
     ∙ ap (trees_of trees) (sym (take_next terms k t lt))
     ∙ ap (λ j. trees_of trees (take j terms)) (sym next) in
-    subst (Hold y) there both
+    subst (λ ts. Hold ts y) there both
 
 -- where all conditions hold, each does
-pub each_holds : (y : List ℕ) (trees : List Tree) (terms : List ℕ) (k d : ℕ) → k < length terms → Hold y (trees_of trees terms) → val (tree_of trees (slice_index_or terms k d)) y ≡ 1
+pub each_holds : (y : List ℕ) (trees : List Tree) (terms : List ℕ) (k d : ℕ) → k < length terms → Hold (trees_of trees terms) y → val (tree_of trees (slice_index_or terms k d)) y ≡ 1
 each_holds y trees [] k d lt h = absurd (omega arith)
-each_holds y trees (t ∷ ts) zero d lt h = h.0
-each_holds y trees (t ∷ ts) (suc k) d lt h = each_holds y trees ts k d (omega arith) h.1
+each_holds y trees (t ∷ ts) zero d lt h = first_holds y (tree_of trees t) (trees_of trees ts) h
+each_holds y trees (t ∷ ts) (suc k) d lt h = each_holds y trees ts k d (omega arith) (others_hold y (tree_of trees t) (trees_of trees ts) h)
 
 -- ---- what a call adds
 
@@ -168,12 +169,12 @@ added old new grown listed now terms more belong e f = f ∙ (λ i. with_conditi
 
 -- lists that hold together
 abbrev pub HoldTogether : Type 0
-HoldTogether = (ts more : List Tree) (y : List ℕ) → Hold y (with_conditions ts more) ↔ (Hold y ts × Hold y more)
+HoldTogether = (ts more : List Tree) (y : List ℕ) → Hold (with_conditions ts more) y ↔ (Hold ts y × Hold more y)
 
 -- what it means that conditions were added that say P
-pub meant : HoldTogether → (y : List ℕ) (now ts more : List Tree) (P : Type 0) → now ≡ with_conditions ts more → (Hold y more ↔ P) → Hold y now ↔ (Hold y ts × P)
+pub meant : HoldTogether → (y : List ℕ) (now ts more : List Tree) (P : Type 0) → now ≡ with_conditions ts more → (Hold more y ↔ P) → Hold now y ↔ (Hold ts y × P)
 meant together y now ts more P e says =
     let both = together ts more y in (
-      λ h. let parts = both.0 (subst (Hold y) e h) in (parts.0, says.0 parts.1),
-      λ p. subst (Hold y) (sym e) (both.1 (p.0, says.1 p.1)),
+      λ h. let parts = both.0 (subst (λ us. Hold us y) e h) in (parts.0, says.0 parts.1),
+      λ p. subst (λ us. Hold us y) (sym e) (both.1 (p.0, says.1 p.1)),
     )

@@ -1,12 +1,7 @@
 -- Lists of terms of an arena.
-use Rattle.std.specs.Prelude.{ℕ, ◌<◌, ◌==◌, List, Bool, map, length, All}
+use Rattle.std.specs.Prelude.{ℕ, ◌<◌, ◌==◌, List, Bool, length, All}
 use Rattle.std.specs.List.{list_any}
 use Rattle.term_model.specs.Tree.{Tree}
-use Rattle.term_arena.specs.Trees.{tree_of}
-
--- the trees of terms
-abbrev pub trees_of : List Tree → List ℕ → List Tree
-trees_of trees terms = map (tree_of trees) terms
 
 -- each of the terms belongs to the arena
 abbrev pub Belong : List Tree → List ℕ → Type 0

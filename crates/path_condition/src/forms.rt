@@ -5,11 +5,11 @@ ghost use Rattle.rv_word.specs.declared.AluOp.TheVariants.{And};
 ghost use Rattle.rv_word.specs.Word.{byte_of as byte_number};
 ghost use Rattle.term_model.specs.declared.Op.TheVariants.{Alu, Eq};
 ghost use Rattle.term_model.specs.Tree.{Const};
-ghost use Rattle.term_arena.specs.Trees.{tree_of, Extends};
+ghost use Rattle.term_arena.specs.Trees.{tree_of, Extends, trees_of};
 ghost use Rattle.normal_form.specs.Norm.{norm};
 ghost use Rattle.normal_form.specs.Normal.{IsNormal};
 ghost use Rattle.replay_law.specs.Forms as shape;
-ghost use Rattle.path_condition.specs.Listed.{trees_of, Belong};
+ghost use Rattle.path_condition.specs.Listed.{Belong};
 ghost use Rattle.path_condition.specs.Sums.{constant_of, sum_of, even_sum_of, named, IsTermOf};
 
 use rv_word::{AluOp, byte_of};

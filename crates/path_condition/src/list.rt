@@ -7,13 +7,14 @@ ghost use Rattle.term_model.specs.Value.{val};
 ghost use Rattle.term_model.specs.Words.{AreBytes};
 ghost use Rattle.term_model.specs.Places.{ReadsBelow};
 ghost use Rattle.term_model.specs.Same.{same_tree};
-ghost use Rattle.term_arena.specs.Trees.{tree_of, Extends, IsShared};
+ghost use Rattle.term_model.specs.Conditions.{Hold};
+ghost use Rattle.term_arena.specs.Trees.{tree_of, Extends, IsShared, trees_of};
 ghost use Rattle.normal_form.specs.Norm.{norm};
 ghost use Rattle.normal_form.specs.Normal.{IsNormal};
 ghost use Rattle.rv_machine.specs.Effects.{even};
-ghost use Rattle.replay_law.specs.Forms.{Hold, with_condition, with_conditions, holds, equal, pin};
+ghost use Rattle.replay_law.specs.Forms.{with_condition, with_conditions, succeeds, equal, pin};
 ghost use Rattle.replay_law.specs.Forms.{target as jump_target};
-ghost use Rattle.path_condition.specs.Listed.{trees_of, Belong, is_listed};
+ghost use Rattle.path_condition.specs.Listed.{Belong, is_listed};
 
 use crate::forms;
 use std::alloc::{AllocError, Global};
@@ -148,8 +149,8 @@ impl Conditions {
     pub fn add_holds(&mut self, arena: &Arena, t: Term) -> Result<(), AllocError>
         requires listed { Belong arena.now self.old }
         requires belongs { t < length arena.now }
-        ensures trees { OnOk result (trees_of arena.now self.new ≡ with_conditions (trees_of arena.now self.old) (holds (tree_of arena.now t))) }
-        ensures meaning { OnOk result ((y : List ℕ) → Hold y (trees_of arena.now self.new) ↔ (Hold y (trees_of arena.now self.old) × (val (tree_of arena.now t) y ≡ 1))) }
+        ensures trees { OnOk result (trees_of arena.now self.new ≡ with_conditions (trees_of arena.now self.old) (succeeds (tree_of arena.now t))) }
+        ensures meaning { OnOk result ((y : List ℕ) → Hold (trees_of arena.now self.new) y ↔ (Hold (trees_of arena.now self.old) y × (val (tree_of arena.now t) y ≡ 1))) }
         ensures listed { Belong arena.now self.new }
         ensures err { OnErr result (self.new ≡ self.old) }
     {
@@ -165,7 +166,7 @@ impl Conditions {
         requires normal_first { IsNormal (tree_of arena.old a) }
         requires normal_second { IsNormal (tree_of arena.old b) }
         ensures trees { OnOk result (trees_of arena.new self.new ≡ with_conditions (trees_of arena.old self.old) (equal norm (tree_of arena.old a) (tree_of arena.old b))) }
-        ensures meaning { OnOk result ((y : List ℕ) → AreBytes y → Hold y (trees_of arena.new self.new) ↔ (Hold y (trees_of arena.old self.old) × (val (tree_of arena.old a) y ≡ val (tree_of arena.old b) y))) }
+        ensures meaning { OnOk result ((y : List ℕ) → AreBytes y → Hold (trees_of arena.new self.new) y ↔ (Hold (trees_of arena.old self.old) y × (val (tree_of arena.old a) y ≡ val (tree_of arena.old b) y))) }
         ensures listed { Belong arena.new self.new }
         ensures keeps { Extends arena.old arena.new }
         ensures err { OnErr result (self.new ≡ self.old) }
@@ -182,7 +183,7 @@ impl Conditions {
         requires belongs { t < length arena.old }
         requires normal { IsNormal (tree_of arena.old t) }
         ensures trees { OnOk result (trees_of arena.new self.new ≡ with_conditions (trees_of arena.old self.old) (pin norm (tree_of arena.old t) value)) }
-        ensures meaning { OnOk result ((y : List ℕ) → AreBytes y → Hold y (trees_of arena.new self.new) ↔ (Hold y (trees_of arena.old self.old) × (val (tree_of arena.old t) y ≡ value))) }
+        ensures meaning { OnOk result ((y : List ℕ) → AreBytes y → Hold (trees_of arena.new self.new) y ↔ (Hold (trees_of arena.old self.old) y × (val (tree_of arena.old t) y ≡ value))) }
         ensures listed { Belong arena.new self.new }
         ensures keeps { Extends arena.old arena.new }
         ensures err { OnErr result (self.new ≡ self.old) }
@@ -206,7 +207,7 @@ impl Conditions {
         requires belongs { sum < length arena.old }
         requires normal { IsNormal (tree_of arena.old sum) }
         ensures trees { OnOk result (trees_of arena.new self.new ≡ with_conditions (trees_of arena.old self.old) (jump_target norm (tree_of arena.old sum) target)) }
-        ensures meaning { OnOk result (target % 2 ≡ 0 → (y : List ℕ) → AreBytes y → Hold y (trees_of arena.new self.new) ↔ (Hold y (trees_of arena.old self.old) × (even (val (tree_of arena.old sum) y) ≡ target))) }
+        ensures meaning { OnOk result (target % 2 ≡ 0 → (y : List ℕ) → AreBytes y → Hold (trees_of arena.new self.new) y ↔ (Hold (trees_of arena.old self.old) y × (even (val (tree_of arena.old sum) y) ≡ target))) }
         ensures listed { Belong arena.new self.new }
         ensures keeps { Extends arena.old arena.new }
         ensures err { OnErr result (self.new ≡ self.old) }
@@ -223,7 +224,7 @@ impl Conditions {
         requires listed { Belong arena.now self.now }
         requires room { length arena.now ≤ scratch.old }
         requires reads { All (λ t. ReadsBelow (length input.now) (tree_of arena.now t)) self.now }
-        ensures test { IsTrue result ↔ Hold input.now (trees_of arena.now self.now) }
+        ensures test { IsTrue result ↔ Hold (trees_of arena.now self.now) input.now }
         ensures keeps { scratch.new ≡ scratch.old }
     {
         for t in &self.terms {

@@ -1,5 +1,5 @@
 -- When the forms of conditions hold.
-use Rattle.std.proofs.Common.{◌≡◌, ℕ, ◌+◌, ◌-◌, ◌*◌, ◌/◌, ◌%◌, ◌^◌, ◌<◌, List, [], ◌∷◌, ◌++◌, Bool, true, false, not, nat_eq, if◌then◌else◌, bit_and, refl, sym, ap, ◌∙◌, arith, ◌==◌}
+use Rattle.std.proofs.Common.{◌≡◌, ℕ, ◌+◌, ◌-◌, ◌*◌, ◌/◌, ◌%◌, ◌^◌, ◌<◌, List, [], ◌∷◌, Bool, true, false, not, nat_eq, if◌then◌else◌, bit_and, refl, sym, ap, ◌∙◌, arith, ◌==◌}
 use Rattle.std.specs.Int.{from_bool}
 use Rattle.std.proofs.lemmas.Bool.{eqb-true, eq-eqb, not-true, not-false}
 use Rattle.std.proofs.lemmas.Bool.Decides.{nat_tests}
@@ -9,26 +9,13 @@ use Rattle.term_model.specs.declared.Op.TheVariants.{Alu, Eq, Byte}
 use Rattle.term_model.specs.Tree.{Tree, Const, Apply}
 use Rattle.term_model.specs.Value.{val, byte_of}
 use Rattle.term_model.specs.Words.{AreBytes}
+use Rattle.term_model.specs.Conditions.{Hold}
+use Rattle.term_model.proofs.HoldLemmas.{hold_one, hold_four, first_holds}
 use Rattle.rv_decode.specs.declared.instr.Cond.{Cond}
 use Rattle.rv_decode.specs.declared.instr.Cond.TheVariants as conds
 use Rattle.rv_machine.specs.Effects.{taken}
 use Rattle.replay_law.specs.Making.{Making, IsMaker}
-use Rattle.replay_law.specs.Forms.{Hold, byte_term, same_byte, byte_is, equal, bytes_are, difference, pin, target_bytes, target, fails, outcome}
-
--- two lists that hold
-pub hold_both : (y : List ℕ) (ts us : List Tree) → Hold y ts → Hold y us → Hold y (ts ++ us)
-hold_both y [] us h k = k
-hold_both y (t ∷ ts) us h k = (h.0, hold_both y ts us h.1 k)
-
--- of two lists that hold, the first does
-pub hold_left : (y : List ℕ) (ts us : List Tree) → Hold y (ts ++ us) → Hold y ts
-hold_left y [] us h = tt
-hold_left y (t ∷ ts) us h = (h.0, hold_left y ts us h.1)
-
--- of two lists that hold, the second does
-pub hold_right : (y : List ℕ) (ts us : List Tree) → Hold y (ts ++ us) → Hold y us
-hold_right y [] us h = h
-hold_right y (t ∷ ts) us h = hold_right y ts us h.1
+use Rattle.replay_law.specs.Forms.{byte_term, same_byte, byte_is, equal, bytes_are, difference, pin, target_bytes, target, fails, outcome}
 
 -- the test of equal numbers is 1
 pub truth_one : (a b : ℕ) → a ≡ b → from_bool (nat_eq a b) ≡ 1
@@ -101,16 +88,16 @@ same_gives m y bs k lt a b ia ib h =
     sym (byte_value m y bs k lt a ia) ∙ eq_gives m y bs _ _ (byte_made m k lt a ia) (byte_made m k lt b ib) h ∙ byte_value m y bs k lt b ib
 
 -- the equality of two terms holds where their values are the same
-pub equal_holds : {made : Making} {IsMade : Tree → Type 0} → IsMaker made IsMade → (y : List ℕ) → AreBytes y → (a b : Tree) → IsMade a → IsMade b → val a y ≡ val b y → Hold y (equal made a b)
+pub equal_holds : {made : Making} {IsMade : Tree → Type 0} → IsMaker made IsMade → (y : List ℕ) → AreBytes y → (a b : Tree) → IsMade a → IsMade b → val a y ≡ val b y → Hold (equal made a b) y
 equal_holds m y bs a b ia ib e =
-    (same_holds m y bs 0 (omega arith) a b ia ib e, (same_holds m y bs 1 (omega arith) a b ia ib e, (same_holds m y bs 2 (omega arith) a b ia ib e, (same_holds m y bs 3 (omega arith) a b ia ib e, tt))))
+    hold_four y _ _ _ _ (same_holds m y bs 0 (omega arith) a b ia ib e) (same_holds m y bs 1 (omega arith) a b ia ib e) (same_holds m y bs 2 (omega arith) a b ia ib e) (same_holds m y bs 3 (omega arith) a b ia ib e)
 
 -- and the converse
-pub equal_gives : {made : Making} {IsMade : Tree → Type 0} → IsMaker made IsMade → (y : List ℕ) → AreBytes y → (a b : Tree) → IsMade a → IsMade b → Hold y (equal made a b) → val a y ≡ val b y
+pub equal_gives : {made : Making} {IsMade : Tree → Type 0} → IsMaker made IsMade → (y : List ℕ) → AreBytes y → (a b : Tree) → IsMade a → IsMade b → Hold (equal made a b) y → val a y ≡ val b y
 equal_gives m y bs a b ia ib h =
     same_bytes _ _ (m.words a y ia bs) (m.words b y ib bs)
-    (same_gives m y bs 0 (omega arith) a b ia ib h.0) (same_gives m y bs 1 (omega arith) a b ia ib h.1.0)
-    (same_gives m y bs 2 (omega arith) a b ia ib h.1.1.0) (same_gives m y bs 3 (omega arith) a b ia ib h.1.1.1.0)
+    (same_gives m y bs 0 (omega arith) a b ia ib (h 0 a (omega arith))) (same_gives m y bs 1 (omega arith) a b ia ib (h 1 a (omega arith)))
+    (same_gives m y bs 2 (omega arith) a b ia ib (h 2 a (omega arith))) (same_gives m y bs 3 (omega arith) a b ia ib (h 3 a (omega arith)))
 
 -- the condition on byte k of a term holds where that byte is the number's
 pub is_holds : {made : Making} {IsMade : Tree → Type 0} → IsMaker made IsMade → (y : List ℕ) → AreBytes y → (k : ℕ) → k < 4 → (t : Tree) (v : ℕ) → IsMade t → byte_of k (val t y) ≡ byte_of k v → val (byte_is made t v k) y ≡ 1
@@ -125,26 +112,26 @@ is_gives m y bs k lt t v it h =
     sym (byte_value m y bs k lt t it) ∙ eq_gives m y bs _ _ (byte_made m k lt t it) (m.constant (byte_of k v) b) h
 
 -- the conditions on all bytes hold where the value is the number
-pub bytes_hold : {made : Making} {IsMade : Tree → Type 0} → IsMaker made IsMade → (y : List ℕ) → AreBytes y → (t : Tree) (v : ℕ) → IsMade t → val t y ≡ v → Hold y (bytes_are made t v)
+pub bytes_hold : {made : Making} {IsMade : Tree → Type 0} → IsMaker made IsMade → (y : List ℕ) → AreBytes y → (t : Tree) (v : ℕ) → IsMade t → val t y ≡ v → Hold (bytes_are made t v) y
 bytes_hold m y bs t v it e =
-    (is_holds m y bs 0 (omega arith) t v it (ap (byte_of 0) e), (is_holds m y bs 1 (omega arith) t v it (ap (byte_of 1) e), (is_holds m y bs 2 (omega arith) t v it (ap (byte_of 2) e), (is_holds m y bs 3 (omega arith) t v it (ap (byte_of 3) e), tt))))
+    hold_four y _ _ _ _ (is_holds m y bs 0 (omega arith) t v it (ap (byte_of 0) e)) (is_holds m y bs 1 (omega arith) t v it (ap (byte_of 1) e)) (is_holds m y bs 2 (omega arith) t v it (ap (byte_of 2) e)) (is_holds m y bs 3 (omega arith) t v it (ap (byte_of 3) e))
 
 -- and the converse
-pub bytes_give : {made : Making} {IsMade : Tree → Type 0} → IsMaker made IsMade → (y : List ℕ) → AreBytes y → (t : Tree) (v : ℕ) → IsMade t → v < 2 ^ 32 → Hold y (bytes_are made t v) → val t y ≡ v
+pub bytes_give : {made : Making} {IsMade : Tree → Type 0} → IsMaker made IsMade → (y : List ℕ) → AreBytes y → (t : Tree) (v : ℕ) → IsMade t → v < 2 ^ 32 → Hold (bytes_are made t v) y → val t y ≡ v
 bytes_give m y bs t v it lt h =
     same_bytes _ _ (m.words t y it bs) lt
-    (is_gives m y bs 0 (omega arith) t v it h.0) (is_gives m y bs 1 (omega arith) t v it h.1.0)
-    (is_gives m y bs 2 (omega arith) t v it h.1.1.0) (is_gives m y bs 3 (omega arith) t v it h.1.1.1.0)
+    (is_gives m y bs 0 (omega arith) t v it (h 0 t (omega arith))) (is_gives m y bs 1 (omega arith) t v it (h 1 t (omega arith)))
+    (is_gives m y bs 2 (omega arith) t v it (h 2 t (omega arith))) (is_gives m y bs 3 (omega arith) t v it (h 3 t (omega arith)))
 
 -- a pin holds where the term has the value
-pub pin_holds : {made : Making} {IsMade : Tree → Type 0} → IsMaker made IsMade → (y : List ℕ) → AreBytes y → (t : Tree) (v : ℕ) → IsMade t → val t y ≡ v → Hold y (pin made t v)
+pub pin_holds : {made : Making} {IsMade : Tree → Type 0} → IsMaker made IsMade → (y : List ℕ) → AreBytes y → (t : Tree) (v : ℕ) → IsMade t → val t y ≡ v → Hold (pin made t v) y
 pin_holds m y bs (Apply (Alu Add) t (Const c)) v it e =
     pin_holds m y bs t (difference v c) (m.first _ _ _ it)
     (difference_is (val t y) c v (m.words t y (m.first _ _ _ it) bs) (m.words (Const c) y (m.second _ _ _ it) bs) e)
 pin_holds m y bs t v it e = bytes_hold m y bs t v it e
 
 -- and the converse
-pub pin_gives : {made : Making} {IsMade : Tree → Type 0} → IsMaker made IsMade → (y : List ℕ) → AreBytes y → (t : Tree) (v : ℕ) → IsMade t → v < 2 ^ 32 → Hold y (pin made t v) → val t y ≡ v
+pub pin_gives : {made : Making} {IsMade : Tree → Type 0} → IsMaker made IsMade → (y : List ℕ) → AreBytes y → (t : Tree) (v : ℕ) → IsMade t → v < 2 ^ 32 → Hold (pin made t v) y → val t y ≡ v
 pin_gives m y bs (Apply (Alu Add) t (Const c)) v it lt h =
     difference_gives (val t y) c v (m.words t y (m.first _ _ _ it) bs) (m.words (Const c) y (m.second _ _ _ it) bs) lt
     (pin_gives m y bs t (difference v c) (m.first _ _ _ it) (omega arith) h)
@@ -192,31 +179,30 @@ low_bound : {made : Making} {IsMade : Tree → Type 0} → IsMaker made IsMade �
 low_bound m v = m.constant (byte_of 0 v) (omega (arith, byte_below 0 v))
 
 -- the conditions of a target that is not peeled hold where the sum has it
-target_bytes_hold : {made : Making} {IsMade : Tree → Type 0} → IsMaker made IsMade → (y : List ℕ) → AreBytes y → (s : Tree) (v : ℕ) → IsMade s → val s y - val s y % 2 ≡ v → Hold y (target_bytes made s v)
-target_bytes_hold m y bs s v is e = (
-  eq_holds m y bs _ _ (low_made m s is) (low_bound m v) (low_value m y bs s is ∙ even_low _ v e),
-  (is_holds m y bs 1 (omega arith) s v is (even_one _ v e), (is_holds m y bs 2 (omega arith) s v is (even_two _ v e), (is_holds m y bs 3 (omega arith) s v is (even_three _ v e), tt))),
-)
+target_bytes_hold : {made : Making} {IsMade : Tree → Type 0} → IsMaker made IsMade → (y : List ℕ) → AreBytes y → (s : Tree) (v : ℕ) → IsMade s → val s y - val s y % 2 ≡ v → Hold (target_bytes made s v) y
+target_bytes_hold m y bs s v is e =
+    hold_four y _ _ _ _ (eq_holds m y bs _ _ (low_made m s is) (low_bound m v) (low_value m y bs s is ∙ even_low _ v e))
+    (is_holds m y bs 1 (omega arith) s v is (even_one _ v e)) (is_holds m y bs 2 (omega arith) s v is (even_two _ v e)) (is_holds m y bs 3 (omega arith) s v is (even_three _ v e))
 
 -- and the converse
-target_bytes_give : {made : Making} {IsMade : Tree → Type 0} → IsMaker made IsMade → (y : List ℕ) → AreBytes y → (s : Tree) (v : ℕ) → IsMade s → v < 2 ^ 32 → v % 2 ≡ 0 → Hold y (target_bytes made s v) → val s y - val s y % 2 ≡ v
+target_bytes_give : {made : Making} {IsMade : Tree → Type 0} → IsMaker made IsMade → (y : List ℕ) → AreBytes y → (s : Tree) (v : ℕ) → IsMade s → v < 2 ^ 32 → v % 2 ≡ 0 → Hold (target_bytes made s v) y → val s y - val s y % 2 ≡ v
 target_bytes_give m y bs s v is lt ev h =
     even_from (val s y) v (m.words s y is bs) lt ev
-    (sym (low_value m y bs s is) ∙ eq_gives m y bs _ _ (low_made m s is) (low_bound m v) h.0)
-    (is_gives m y bs 1 (omega arith) s v is h.1.0) (is_gives m y bs 2 (omega arith) s v is h.1.1.0) (is_gives m y bs 3 (omega arith) s v is h.1.1.1.0)
+    (sym (low_value m y bs s is) ∙ eq_gives m y bs _ _ (low_made m s is) (low_bound m v) (h 0 s (omega arith)))
+    (is_gives m y bs 1 (omega arith) s v is (h 1 s (omega arith))) (is_gives m y bs 2 (omega arith) s v is (h 2 s (omega arith))) (is_gives m y bs 3 (omega arith) s v is (h 3 s (omega arith)))
 
 -- either list holds, by a test
-pub hold_if : (y : List ℕ) (b : Bool) (ts us : List Tree) → (b ≡ true → Hold y ts) → (b ≡ false → Hold y us) → Hold y (if b then ts else us)
+pub hold_if : (y : List ℕ) (b : Bool) (ts us : List Tree) → (b ≡ true → Hold ts y) → (b ≡ false → Hold us y) → Hold (if b then ts else us) y
 hold_if y true ts us f g = f refl
 hold_if y false ts us f g = g refl
 
 -- what follows of either list that holds
-pub if_held : (y : List ℕ) (b : Bool) (ts us : List Tree) (P : Type 0) → (b ≡ true → Hold y ts → P) → (b ≡ false → Hold y us → P) → Hold y (if b then ts else us) → P
+pub if_held : (y : List ℕ) (b : Bool) (ts us : List Tree) (P : Type 0) → (b ≡ true → Hold ts y → P) → (b ≡ false → Hold us y → P) → Hold (if b then ts else us) y → P
 if_held y true ts us P f g h = f refl h
 if_held y false ts us P f g h = g refl h
 
 -- a target condition holds where the sum has the target
-pub target_holds : {made : Making} {IsMade : Tree → Type 0} → IsMaker made IsMade → (y : List ℕ) → AreBytes y → (s : Tree) (v : ℕ) → IsMade s → val s y - val s y % 2 ≡ v → Hold y (target made s v)
+pub target_holds : {made : Making} {IsMade : Tree → Type 0} → IsMaker made IsMade → (y : List ℕ) → AreBytes y → (s : Tree) (v : ℕ) → IsMade s → val s y - val s y % 2 ≡ v → Hold (target made s v) y
 target_holds {made} m y bs (Apply (Alu Add) t (Const c)) v is e =
     hold_if y (c % 2 == 0) (target made t (difference v c)) (target_bytes made (Apply (Alu Add) t (Const c)) v)
     (λ ev. target_holds m y bs t (difference v c) (m.first _ _ _ is)
@@ -225,7 +211,7 @@ target_holds {made} m y bs (Apply (Alu Add) t (Const c)) v is e =
 target_holds m y bs s v is e = target_bytes_hold m y bs s v is e
 
 -- and the converse
-pub target_gives : {made : Making} {IsMade : Tree → Type 0} → IsMaker made IsMade → (y : List ℕ) → AreBytes y → (s : Tree) (v : ℕ) → IsMade s → v < 2 ^ 32 → v % 2 ≡ 0 → Hold y (target made s v) → val s y - val s y % 2 ≡ v
+pub target_gives : {made : Making} {IsMade : Tree → Type 0} → IsMaker made IsMade → (y : List ℕ) → AreBytes y → (s : Tree) (v : ℕ) → IsMade s → v < 2 ^ 32 → v % 2 ≡ 0 → Hold (target made s v) y → val s y - val s y % 2 ≡ v
 target_gives {made} m y bs (Apply (Alu Add) t (Const c)) v is lt even h =
     if_held y (c % 2 == 0) (target made t (difference v c)) (target_bytes made (Apply (Alu Add) t (Const c)) v) (val (Apply (Alu Add) t (Const c)) y - val (Apply (Alu Add) t (Const c)) y % 2 ≡ v)
     (λ ev k.
@@ -245,23 +231,23 @@ truth_true true e = refl
 truth_true false e = absurd (omega arith)
 
 -- the condition that a truth is 0 holds where it is false
-fails_hold : {made : Making} {IsMade : Tree → Type 0} → IsMaker made IsMade → (y : List ℕ) → AreBytes y → (t : Tree) (b : Bool) → IsMade t → val t y ≡ from_bool b → b ≡ false → Hold y (fails made t)
-fails_hold m y bs t b it e f = (eq_holds m y bs t (Const 0) it (m.constant 0 (omega arith)) (e ∙ ap from_bool f), tt)
+fails_hold : {made : Making} {IsMade : Tree → Type 0} → IsMaker made IsMade → (y : List ℕ) → AreBytes y → (t : Tree) (b : Bool) → IsMade t → val t y ≡ from_bool b → b ≡ false → Hold (fails made t) y
+fails_hold m y bs t b it e f = hold_one y _ (eq_holds m y bs t (Const 0) it (m.constant 0 (omega arith)) (e ∙ ap from_bool f))
 
 -- and the converse
-fails_give : {made : Making} {IsMade : Tree → Type 0} → IsMaker made IsMade → (y : List ℕ) → AreBytes y → (t : Tree) (b : Bool) → IsMade t → val t y ≡ from_bool b → Hold y (fails made t) → b ≡ false
-fails_give m y bs t b it e h = truth_bit b (sym e ∙ eq_gives m y bs t (Const 0) it (m.constant 0 (omega arith)) h.0)
+fails_give : {made : Making} {IsMade : Tree → Type 0} → IsMaker made IsMade → (y : List ℕ) → AreBytes y → (t : Tree) (b : Bool) → IsMade t → val t y ≡ from_bool b → Hold (fails made t) y → b ≡ false
+fails_give m y bs t b it e h = truth_bit b (sym e ∙ eq_gives m y bs t (Const 0) it (m.constant 0 (omega arith)) (h 0 t (omega arith)))
 
 -- a truth term as a condition holds where it is true
-true_hold : (y : List ℕ) (t : Tree) (b : Bool) → val t y ≡ from_bool b → b ≡ true → Hold y (t ∷ [])
-true_hold y t b e f = (e ∙ ap from_bool f, tt)
+true_hold : (y : List ℕ) (t : Tree) (b : Bool) → val t y ≡ from_bool b → b ≡ true → Hold (t ∷ []) y
+true_hold y t b e f = hold_one y t (e ∙ ap from_bool f)
 
 -- and the converse
-true_give : (y : List ℕ) (t : Tree) (b : Bool) → val t y ≡ from_bool b → Hold y (t ∷ []) → b ≡ true
-true_give y t b e h = truth_true b (sym e ∙ h.0)
+true_give : (y : List ℕ) (t : Tree) (b : Bool) → val t y ≡ from_bool b → Hold (t ∷ []) y → b ≡ true
+true_give y t b e h = truth_true b (sym e ∙ first_holds y t [] h)
 
 -- the conditions of a branch hold where it has the outcome
-pub outcome_holds : {made : Making} {IsMade : Tree → Type 0} → IsMaker made IsMade → (y : List ℕ) → AreBytes y → (c : Cond) (a b : Tree) (t : Bool) → IsMade a → IsMade b → taken c (val a y) (val b y) ≡ t → Hold y (outcome made c a b t)
+pub outcome_holds : {made : Making} {IsMade : Tree → Type 0} → IsMaker made IsMade → (y : List ℕ) → AreBytes y → (c : Cond) (a b : Tree) (t : Bool) → IsMade a → IsMade b → taken c (val a y) (val b y) ≡ t → Hold (outcome made c a b t) y
 outcome_holds m y bs conds.Eq a b true ia ib e = equal_holds m y bs a b ia ib (eqb-true _ _ e)
 outcome_holds m y bs conds.Eq a b false ia ib e = fails_hold m y bs _ _ (m.gives Eq a b ia ib tt) (m.keeps Eq a b y ia ib tt bs) e
 outcome_holds m y bs conds.Ne a b true ia ib e = fails_hold m y bs _ _ (m.gives Eq a b ia ib tt) (m.keeps Eq a b y ia ib tt bs) (not-true _ e)
@@ -276,7 +262,7 @@ outcome_holds m y bs conds.Geu a b true ia ib e = fails_hold m y bs _ _ (m.gives
 outcome_holds {made} m y bs conds.Geu a b false ia ib e = true_hold y (made (Alu Sltu) a b) _ (m.keeps (Alu Sltu) a b y ia ib tt bs) (not-false _ e)
 
 -- and the converse
-pub outcome_gives : {made : Making} {IsMade : Tree → Type 0} → IsMaker made IsMade → (y : List ℕ) → AreBytes y → (c : Cond) (a b : Tree) (t : Bool) → IsMade a → IsMade b → Hold y (outcome made c a b t) → taken c (val a y) (val b y) ≡ t
+pub outcome_gives : {made : Making} {IsMade : Tree → Type 0} → IsMaker made IsMade → (y : List ℕ) → AreBytes y → (c : Cond) (a b : Tree) (t : Bool) → IsMade a → IsMade b → Hold (outcome made c a b t) y → taken c (val a y) (val b y) ≡ t
 outcome_gives m y bs conds.Eq a b true ia ib h = eq-eqb _ _ (equal_gives m y bs a b ia ib h)
 outcome_gives m y bs conds.Eq a b false ia ib h = fails_give m y bs _ _ (m.gives Eq a b ia ib tt) (m.keeps Eq a b y ia ib tt bs) h
 outcome_gives m y bs conds.Ne a b true ia ib h = ap not (fails_give m y bs _ _ (m.gives Eq a b ia ib tt) (m.keeps Eq a b y ia ib tt bs) h)

@@ -23,7 +23,7 @@ use Rattle.memory_map.specs.Cells.{Map, next_address, first_without, read, write
 use Rattle.rv_machine.specs.State.{bits, following, start_registers}
 use Rattle.rv_machine.specs.Calls.{Reply, Answers, Moves, Exits, if_none, reply_to}
 use Rattle.replay_law.specs.Making.{Making, IsMaker, IsConstant, IsTruthOrConstant, IsCarefulMaker}
-use Rattle.replay_law.specs.Forms.{Hold, byte_term, equal, bytes_are, difference, pin, target_bytes, target, fails, outcome, with_condition, with_conditions}
+use Rattle.replay_law.specs.Forms.{byte_term, equal, bytes_are, difference, pin, target_bytes, target, fails, outcome, with_condition, with_conditions}
 use Rattle.replay_law.specs.Terms.{Terms, reg_term, put_reg, put_trees, input_terms, extended_term, half_term, loaded_term, stored_terms, sum_term, call_value, after_reply, after_row, after_instr, terms_after, start_terms}
 use Rattle.replay_law.specs.Follow.{fetched_byte, fetch_conditions, row_conditions, instr_conditions, conditions_by, conditions_of}
 use Rattle.replay_law.proofs.Held.{byte_made, byte_below}
@@ -31,6 +31,8 @@ use Rattle.replay_law.proofs.Agreeing.{Each, written_keeps, put_keeps}
 use Rattle.replay_law.proofs.Stepping.{bits_below}
 use Rattle.replay_law.proofs.Agreement.{AreMade}
 use Rattle.term_model.specs.Places.{ReadsBelow}
+use Rattle.term_model.specs.Conditions.{Hold}
+use Rattle.term_model.proofs.HoldLemmas.{first_holds, others_hold}
 use Rattle.replay_law.specs.Crash.{IsProper, AreProper}
 
 -- what each condition is, before repeats and the constant 1 are left out
@@ -323,10 +325,10 @@ push_if n ts t true h k = h
 push_if n ts t false h k = AreProper_push n ts t h (k refl)
 
 -- the conditions that are kept are proper
-pub kept_proper : {IsMade : Tree → Type 0} {made : Making} → IsCarefulMaker made IsMade → ((c : ℕ) → same_tree (Const c) (Const c) ≡ true) → (n : ℕ) (y : List ℕ) (ts more : List Tree) → AreProper n ts → Each (IsNew IsMade n) more → Hold y more → AreProper n (with_conditions ts more)
+pub kept_proper : {IsMade : Tree → Type 0} {made : Making} → IsCarefulMaker made IsMade → ((c : ℕ) → same_tree (Const c) (Const c) ≡ true) → (n : ℕ) (y : List ℕ) (ts more : List Tree) → AreProper n ts → Each (IsNew IsMade n) more → Hold more y → AreProper n (with_conditions ts more)
 unfolding with_conditions
 kept_proper c itself n y ts [] h k e = h
 kept_proper c itself n y ts (t ∷ more) h k e =
     kept_proper c itself n y (with_condition ts t) more
-    (push_if n ts t (same_tree t (Const 1) || list_any (same_tree t) ts) h (λ f. proper_if c itself n y t k.0 e.0 (or_parts (same_tree t (Const 1)) (list_any (same_tree t) ts) f).0))
-    k.1 e.1
+    (push_if n ts t (same_tree t (Const 1) || list_any (same_tree t) ts) h (λ f. proper_if c itself n y t k.0 (first_holds y t more e) (or_parts (same_tree t (Const 1)) (list_any (same_tree t) ts) f).0))
+    k.1 (others_hold y t more e)

@@ -14,22 +14,23 @@ use Rattle.rv_machine.specs.Class.{in_class}
 use Rattle.elf32.specs.Loads.{Program}
 use Rattle.rv_event.specs.declared.transcript.Transcript.{Transcript}
 use Rattle.rv_event.specs.Same.{same_transcript}
+use Rattle.input_laws.specs.Inputs.{IsInput}
 use Rattle.replay_law.specs.Making.{Making, IsMaker, IsCarefulMaker}
-use Rattle.replay_law.specs.Forms.{Hold}
 use Rattle.replay_law.specs.Terms.{Terms, terms_after, start_terms}
 use Rattle.replay_law.specs.Follow.{conditions_of, shown_next, follow, conditions}
-use Rattle.replay_law.proofs.Held.{hold_both, hold_left, hold_right}
 use Rattle.replay_law.proofs.Stepping.{Stands, OnGoes, step_goes}
 use Rattle.replay_law.proofs.Pinned.{Looks, shown_by, LookSame}
 use Rattle.replay_law.proofs.Steps.{AreTogether, step_looks, step_holds}
 use Rattle.replay_law.proofs.Aligned.{IsAligned, step_aligned, step_pc}
 use Rattle.term_model.specs.Same.{same_tree}
+use Rattle.term_model.specs.Conditions.{Hold}
+use Rattle.term_model.proofs.HoldLemmas.{hold_none, hold_both, hold_left, hold_right}
 use Rattle.replay_law.proofs.Agreeing.{Each}
 use Rattle.replay_law.proofs.Proper.{IsNew, ReadWithin, both_each, new_conditions, after_within, start_within, kept_proper}
 use Rattle.replay_law.proofs.Kept.{FindsEqual, kept_hold, kept_give}
 use Rattle.replay_law.proofs.Agreement.{cell_with}
 use Rattle.replay_law.proofs.Start.{zeros_below, start_below, start_aligned}
-use Rattle.replay_law.specs.Crash.{IsProgram, IsInput, IsTrapped, IsCrash, AreProper}
+use Rattle.replay_law.specs.Crash.{IsProgram, IsTrapped, IsCrash, AreProper}
 
 -- what a step shows stands in the rest of a run that a trap ends
 shown_rest : (k : ℕ) (x : List ℕ) (next : Next) → IsTrapped (onward (trace k x) next).end → shown_next (onward (trace k x) next).events (onward (trace k x) next).end ≡ shown_by next
@@ -51,8 +52,8 @@ record AreTogetherNext (image : Map) (IsMade : Tree → Type 0) (n : ℕ) (terms
 
 -- what the law says of the runs of so many steps, in both directions
 record IsLawful (made : Making) (image : Map) (n : ℕ) (terms : Terms) (y : List ℕ) (run other : Run) : Type 0 where
-  gives : Hold y (follow made image n terms run.events run.end) → other ≡ run
-  holds : other ≡ run → Hold y (follow made image n terms run.events run.end)
+  gives : Hold (follow made image n terms run.events run.end) y → other ≡ run
+  holds : other ≡ run → Hold (follow made image n terms run.events run.end) y
 
 -- the law for runs of at most k steps
 abbrev LawAt : (made : Making) (IsMade : Tree → Type 0) → Map → ℕ → ℕ → List ℕ → List ℕ → Type 0
@@ -64,7 +65,7 @@ unfolding follow
 next_lawful m image n k x y law terms (Goes s) (Goes r) h t = law terms s r (record { first = h.first; second = h.second; here = h.here; there = h.there; pc = h.looks; aligned = h.aligned }) t
 next_lawful m image n k x y law terms (Goes s) (Ends e) h t = absurd h.looks
 next_lawful m image n k x y law terms (Ends e) (Goes r) h t = absurd h.looks
-next_lawful m image n k x y law terms (Ends d) (Ends e) h t = record { gives = λ c. ap (λ f. record { events = []; end = f }) h.looks; holds = λ c. tt }
+next_lawful m image n k x y law terms (Ends d) (Ends e) h t = record { gives = λ c. ap (λ f. record { events = []; end = f }) h.looks; holds = λ c. hold_none y }
 
 -- what comes after two steps that look the same
 nexts : {made : Making} {IsMade : Tree → Type 0} → IsMaker made IsMade → {image : Map} {n : ℕ} {terms : Terms} {x y : List ℕ} {s r : State} → AreTogether image IsMade n terms x y s r → LookSame (step x s) (step y r) → AreTogetherNext image IsMade n (terms_after made image n terms (step x s).event) x y (step x s).next (step y r).next
@@ -101,7 +102,7 @@ step_lawful {made} {IsMade} m image n k x y law terms s r h t =
     let more = follow made image n (terms_after made image n terms e) rest.events rest.end in
     record {
       gives = λ c.
-          let look = step_looks m h (subst (λ (v : ℕ). Hold y (conditions_of made terms e v)) shown (hold_left y cs more c)) in
+          let look = step_looks m h (subst (λ (v : ℕ). Hold (conditions_of made terms e v) y) shown (hold_left y cs more c)) in
           let later = next_lawful m image n k x y law (terms_after made image n terms e) (step x s).next (step y r).next (nexts m h look) t in
           (λ i. with_event (look.event i) (later.gives (hold_right y cs more c) i));
       holds = λ c.
@@ -112,7 +113,7 @@ step_lawful {made} {IsMade} m image n k x y law terms s r h t =
           let holds = step_holds m h event there in
           let look = step_looks m h holds in
           let later = next_lawful m image n k x y law (terms_after made image n terms e) (step x s).next (step y r).next (nexts m h look) t in
-          hold_both y cs more (subst (λ (v : ℕ). Hold y (conditions_of made terms e v)) (sym shown) holds) (later.holds same);
+          hold_both y cs more (subst (λ (v : ℕ). Hold (conditions_of made terms e v) y) (sym shown) holds) (later.holds same);
     }
 
 -- the law for runs of every length
@@ -160,7 +161,7 @@ start_together m program h n x y ix iy = record { first = ix; second = iy; here 
 -- ---- the law
 
 -- the conditions of a run hold of an input exactly where it has the same run
-same_lawful : {made : Making} {IsMade : Tree → Type 0} → IsMaker made IsMade → FindsEqual → (program : Program) (limit : ℕ) (x y : List ℕ) → IsProgram program → IsInput (length x) x → IsInput (length x) y → IsTrapped (transcript_of program x limit).end → Hold y (conditions made program (transcript_of program x limit)) ↔ (transcript_of program y limit ≡ transcript_of program x limit)
+same_lawful : {made : Making} {IsMade : Tree → Type 0} → IsMaker made IsMade → FindsEqual → (program : Program) (limit : ℕ) (x y : List ℕ) → IsProgram program → IsInput (length x) x → IsInput (length x) y → IsTrapped (transcript_of program x limit).end → Hold (conditions made program (transcript_of program x limit)) y ↔ (transcript_of program y limit ≡ transcript_of program x limit)
 unfolding conditions transcript_of
 same_lawful {made} m equal program limit x y h ix iy t =
     let image = start_map program.segments in
@@ -168,12 +169,12 @@ same_lawful {made} m equal program limit x y h ix iy t =
     let other = run_of program y limit in
     let law = run_lawful m image (length x) x y limit (start_terms image) (start program.entry program.segments) (start program.entry program.segments) (start_together m program h (length x) x y ix iy) t in
     let ts = follow made image (length x) (start_terms image) run.events run.end in (
-      λ c. let e = law.gives (kept_give equal y [] ts c) in (λ i. record { n = iy.length_is i; events = (e i).events; end = (e i).end }),
-      λ e. kept_hold y [] ts tt (law.holds (same_run other run (λ i. (e i).events) (λ i. (e i).end))),
+      λ c. let e = law.gives (kept_give equal y [] ts c) in (λ i. record { n = iy.long i; events = (e i).events; end = (e i).end }),
+      λ e. kept_hold y [] ts (hold_none y) (law.holds (same_run other run (λ i. (e i).events) (λ i. (e i).end))),
     )
 
 -- the same, where the length of the input is the transcript's
-traced_lawful : {made : Making} {IsMade : Tree → Type 0} → IsMaker made IsMade → FindsEqual → (program : Program) (limit : ℕ) (x y : List ℕ) → IsProgram program → IsInput (transcript_of program x limit).n x → IsInput (transcript_of program x limit).n y → IsTrapped (transcript_of program x limit).end → Hold y (conditions made program (transcript_of program x limit)) ↔ (transcript_of program y limit ≡ transcript_of program x limit)
+traced_lawful : {made : Making} {IsMade : Tree → Type 0} → IsMaker made IsMade → FindsEqual → (program : Program) (limit : ℕ) (x y : List ℕ) → IsProgram program → IsInput (transcript_of program x limit).n x → IsInput (transcript_of program x limit).n y → IsTrapped (transcript_of program x limit).end → Hold (conditions made program (transcript_of program x limit)) y ↔ (transcript_of program y limit ≡ transcript_of program x limit)
 unfolding transcript_of
 traced_lawful m equal program limit x y h ix iy t = same_lawful m equal program limit x y h ix iy t
 
@@ -182,10 +183,10 @@ abbrev pub TestsEqual : Type 0
 TestsEqual = (a b : Transcript) → IsTrue (same_transcript a b) ↔ (a ≡ b)
 
 -- the conditions of a crash hold of an input exactly where it is in the class
-pub conditions_lawful : {made : Making} {IsMade : Tree → Type 0} → IsMaker made IsMade → FindsEqual → TestsEqual → (program : Program) (limit : ℕ) (x y : List ℕ) (run : Transcript) → IsProgram program → IsCrash program limit x run → IsInput run.n y → Hold y (conditions made program run) ↔ IsTrue (in_class program limit run y)
+pub conditions_lawful : {made : Making} {IsMade : Tree → Type 0} → IsMaker made IsMade → FindsEqual → TestsEqual → (program : Program) (limit : ℕ) (x y : List ℕ) (run : Transcript) → IsProgram program → IsCrash program limit x run → IsInput run.n y → Hold (conditions made program run) y ↔ IsTrue (in_class program limit run y)
 unfolding in_class
 conditions_lawful {made} m equal same program limit x y run h c iy =
-    let Law : Transcript → Type 0 = λ t. IsInput t.n x → IsInput t.n y → IsTrapped t.end → Hold y (conditions made program t) ↔ (transcript_of program y limit ≡ t) in
+    let Law : Transcript → Type 0 = λ t. IsInput t.n x → IsInput t.n y → IsTrapped t.end → Hold (conditions made program t) y ↔ (transcript_of program y limit ≡ t) in
     let law = subst Law (sym c.trace) (traced_lawful m equal program limit x y h) c.input iy c.trapped in
     let test = same (transcript_of program y limit) run in
     (λ k. test.1 (law.0 k), λ k. law.1 (test.0 k))

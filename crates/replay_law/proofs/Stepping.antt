@@ -12,16 +12,17 @@ use Rattle.term_model.specs.declared.Op.TheVariants.{Alu}
 use Rattle.term_model.specs.Tree.{Tree, Const}
 use Rattle.term_model.specs.Value.{val}
 use Rattle.term_model.specs.Words.{AreBytes}
+use Rattle.term_model.proofs.ByteLemmas.{bytes_everywhere}
 use Rattle.memory_map.specs.Cells.{Map, execute, read, write, first_without, word_at, placed}
 use Rattle.rv_machine.specs.State.{State, Next, Goes, Ends, reg, write_reg, at, following, bits, trap}
 use Rattle.rv_machine.specs.Calls.{Reply, Answers, Moves, Exits, if_none, reply_to}
 use Rattle.rv_machine.specs.Effects.{even, jump, taken, size_of, stored, input_bytes, after_load, after_store, after_call, address_of, effect, executed, after_fetch, step}
+use Rattle.input_laws.specs.Inputs.{IsInput}
 use Rattle.replay_law.specs.Making.{Making, IsMaker}
 use Rattle.replay_law.specs.Terms.{Terms, reg_term, put_reg, put_trees, input_terms, loaded_term, stored_terms, call_value, after_reply, after_row, after_instr, terms_after}
 use Rattle.replay_law.proofs.Agreeing.{reg_value, written_value, written_keeps, placed_valued, put_keeps, Each, same_rights, reply_same}
 use Rattle.replay_law.proofs.Moved.{IsByte, loaded_made, loaded_value, stored_value, stored_bytes, input_values, input_are_bytes}
 use Rattle.replay_law.proofs.Agreement.{Agrees, AreMade}
-use Rattle.replay_law.specs.Crash.{IsInput}
 
 -- a plain state agrees with terms that are made
 pub record Stands (image : Map) (IsMade : Tree → Type 0) (terms : Terms) (y : List ℕ) (s : State) : Type 0 where
@@ -147,23 +148,23 @@ row_goes m {s = s} n inp h word (Auipc rd imm) = put h _ rd _ (Const ((s.pc + bi
 row_goes m {s = s} n inp h word (Jal rd offset) = jump_put h s.pc ((s.pc + bits offset) % 2 ^ 32) rd (following s.pc) (Const (following s.pc)) refl (m.constant _ (omega arith))
 row_goes m {s = s} n inp h word (Jalr rd rs1 imm) = jump_put h s.pc (even (address_of s rs1 (bits imm))) rd (following s.pc) (Const (following s.pc)) refl (m.constant _ (omega arith))
 row_goes m {s = s} n inp h word (Branch c rs1 rs2 offset) = branch_stay h (taken c (reg s rs1) (reg s rs2)) s.pc ((s.pc + bits offset) % 2 ^ 32)
-row_goes m {s = s} n inp h word (Load width rd rs1 imm) = load_goes m inp.bytes h width rd (address_of s rs1 (bits imm)) (first_without read s.memory (address_of s rs1 (bits imm)) (size_of width)) refl
-row_goes m {s = s} n inp h word (Store width rs1 rs2 imm) = store_goes m inp.bytes h width rs2 (address_of s rs1 (bits imm)) (first_without write s.memory (address_of s rs1 (bits imm)) (size_of width))
+row_goes m {y = y} {s = s} n inp h word (Load width rd rs1 imm) = load_goes m (bytes_everywhere y inp.in_range) h width rd (address_of s rs1 (bits imm)) (first_without read s.memory (address_of s rs1 (bits imm)) (size_of width)) refl
+row_goes m {y = y} {s = s} n inp h word (Store width rs1 rs2 imm) = store_goes m (bytes_everywhere y inp.in_range) h width rs2 (address_of s rs1 (bits imm)) (first_without write s.memory (address_of s rs1 (bits imm)) (size_of width))
 row_goes {made} m {terms = terms} {y = y} {s = s} n inp h word (AluImm op rd rs1 imm) =
     put h _ rd _ (made (Alu op) (reg_term terms rs1) (Const (bits imm)))
-    (ap (λ v. alu op v (bits imm)) (reg_value h.agrees rs1) ∙ sym (m.keeps (Alu op) (reg_term terms rs1) (Const (bits imm)) y (h.made.registers rs1) (m.constant _ (bits_below imm)) tt inp.bytes))
+    (ap (λ v. alu op v (bits imm)) (reg_value h.agrees rs1) ∙ sym (m.keeps (Alu op) (reg_term terms rs1) (Const (bits imm)) y (h.made.registers rs1) (m.constant _ (bits_below imm)) tt (bytes_everywhere y inp.in_range)))
     (m.gives (Alu op) (reg_term terms rs1) (Const (bits imm)) (h.made.registers rs1) (m.constant _ (bits_below imm)) tt)
 row_goes {made} m {terms = terms} {y = y} {s = s} n inp h word (AluReg op rd rs1 rs2) =
     put h _ rd _ (made (Alu op) (reg_term terms rs1) (reg_term terms rs2))
-    ((λ i. alu op (reg_value h.agrees rs1 i) (reg_value h.agrees rs2 i)) ∙ sym (m.keeps (Alu op) (reg_term terms rs1) (reg_term terms rs2) y (h.made.registers rs1) (h.made.registers rs2) tt inp.bytes))
+    ((λ i. alu op (reg_value h.agrees rs1 i) (reg_value h.agrees rs2 i)) ∙ sym (m.keeps (Alu op) (reg_term terms rs1) (reg_term terms rs2) y (h.made.registers rs1) (h.made.registers rs2) tt (bytes_everywhere y inp.in_range)))
     (m.gives (Alu op) (reg_term terms rs1) (reg_term terms rs2) (h.made.registers rs1) (h.made.registers rs2) tt)
 row_goes m n inp h word (Fence bits') = stay h _
 row_goes m {image} {terms} {y} {s} n inp h word Ecall =
-    let w : reg s 12 < 2 ^ 32 = subst (λ (v : ℕ). v < 2 ^ 32) (sym (reg_value h.agrees 12)) (m.words (reg_term terms 12) y (h.made.registers 12) inp.bytes) in
+    let w : reg s 12 < 2 ^ 32 = subst (λ (v : ℕ). v < 2 ^ 32) (sym (reg_value h.agrees 12)) (m.words (reg_term terms 12) y (h.made.registers 12) (bytes_everywhere y inp.in_range)) in
     call_goes m h (effect y s word Ecall).event refl
     (reply_to s.memory (length y - s.place) (reg s 17) (reg s 10) (reg s 11) (reg s 12))
     (reply_to image (n - terms.place) (reg s 17) (reg s 10) (reg s 11) (reg s 12))
-    (reply_same (same_rights h.agrees) (length y - s.place) (reg s 17) (reg s 10) (reg s 11) (reg s 12) ∙ (λ i. reply_to image (inp.length_is i - h.agrees.place i) (reg s 17) (reg s 10) (reg s 11) (reg s 12)))
+    (reply_same (same_rights h.agrees) (length y - s.place) (reg s 17) (reg s 10) (reg s 11) (reg s 12) ∙ (λ i. reply_to image (inp.long i - h.agrees.place i) (reg s 17) (reg s 10) (reg s 11) (reg s 12)))
     (reply_word s.memory (length y - s.place) (reg s 17) (reg s 10) (reg s 11) (reg s 12) w)
 row_goes m n inp h word Ebreak = tt
 

@@ -8,14 +8,16 @@ use Rattle.term_model.specs.declared.Op.TheVariants.{Alu}
 use Rattle.term_model.specs.Tree.{Tree, Const}
 use Rattle.term_model.specs.Value.{val}
 use Rattle.term_model.specs.Words.{AreBytes}
+use Rattle.term_model.specs.Conditions.{Hold}
+use Rattle.term_model.proofs.HoldLemmas.{hold_none, hold_both, hold_left, hold_right}
 use Rattle.memory_map.specs.Cells.{Map}
 use Rattle.rv_machine.specs.State.{State, Goes, reg, write_reg, at, following, bits}
 use Rattle.rv_machine.specs.Effects.{even, jump, taken, address_of, effect}
 use Rattle.replay_law.specs.Making.{Making, IsMaker}
-use Rattle.replay_law.specs.Forms.{Hold, pin, target, outcome}
+use Rattle.replay_law.specs.Forms.{pin, target, outcome}
 use Rattle.replay_law.specs.Terms.{Terms, reg_term, sum_term}
 use Rattle.replay_law.specs.Follow.{row_conditions}
-use Rattle.replay_law.proofs.Held.{hold_both, hold_left, hold_right, pin_holds, pin_gives, target_holds, target_gives, hold_if, if_held, outcome_holds, outcome_gives}
+use Rattle.replay_law.proofs.Held.{pin_holds, pin_gives, target_holds, target_gives, hold_if, if_held, outcome_holds, outcome_gives}
 use Rattle.replay_law.proofs.Agreeing.{reg_value}
 use Rattle.replay_law.proofs.Stepping.{Stands, bits_below}
 use Rattle.replay_law.proofs.Pinned.{shown_by, target_of, IsPinned, jump_shows}
@@ -48,7 +50,7 @@ shown_target true pc t s far = eq-eqb _ _ (jump_shows pc t s)
 shown_target false pc t s far = ne_eqb _ _ (λ e. far (sym e))
 
 -- the state r on y and the state s on x agree with the same terms, and have the same program counter
-pub row_gives : {made : Making} {IsMade : Tree → Type 0} → IsMaker made IsMade → {image : Map} {terms : Terms} {x y : List ℕ} {s r : State} → AreBytes x → AreBytes y → Stands image IsMade terms x s → Stands image IsMade terms y r → (word : ℕ) (i : Instr) → Hold y (row_conditions made terms (effect x s word i).event (shown_by (effect x s word i).next) i) → IsPinned s r i
+pub row_gives : {made : Making} {IsMade : Tree → Type 0} → IsMaker made IsMade → {image : Map} {terms : Terms} {x y : List ℕ} {s r : State} → AreBytes x → AreBytes y → Stands image IsMade terms x s → Stands image IsMade terms y r → (word : ℕ) (i : Instr) → Hold (row_conditions made terms (effect x s word i).event (shown_by (effect x s word i).next) i) y → IsPinned s r i
 unfolding effect
 row_gives m bx bs hx h word (Lui rd imm) c = tt
 row_gives m bx bs hx h word (Auipc rd imm) c = tt
@@ -58,7 +60,7 @@ row_gives {made} m {image} {terms} {x} {y} {s} {r} bx bs hx h word (Jalr rd rs1 
     let e = jump_shows s.pc (even (address_of s rs1 (bits imm))) (write_reg rd (following s.pc) s) in
     ap even (sym (sum_value m bs h rs1 (bits imm) (bits_below imm)))
     ∙ target_gives m y bs t (even (address_of s rs1 (bits imm))) (sum_made m h.made rs1 (bits imm) (bits_below imm)) (even_below (reg s rs1 + bits imm)) (even_even (address_of s rs1 (bits imm)))
-    (subst (λ (v : ℕ). Hold y (target made t v)) e c)
+    (subst (λ (v : ℕ). Hold (target made t v) y) e c)
 row_gives {made} m {image} {terms} {x} {y} {s} {r} bx bs hx h word (Branch cond rs1 rs2 offset) c =
     if_held y (target_of s (bits offset) == following s.pc) [] (outcome made cond (reg_term terms rs1) (reg_term terms rs2) (shown_by (effect x s word (Branch cond rs1 rs2 offset)).next == target_of s (bits offset)))
     (IsPinned s r (Branch cond rs1 rs2 offset))
@@ -94,17 +96,17 @@ far_or_same (inl a) f = absurd (f a)
 far_or_same (inr b) f = b
 
 -- the conditions of an instruction hold where the values that it pins are the same
-pub row_holds : {made : Making} {IsMade : Tree → Type 0} → IsMaker made IsMade → {image : Map} {terms : Terms} {x y : List ℕ} {s r : State} → AreBytes x → AreBytes y → Stands image IsMade terms x s → Stands image IsMade terms y r → (word : ℕ) (i : Instr) → IsPinned s r i → Hold y (row_conditions made terms (effect x s word i).event (shown_by (effect x s word i).next) i)
+pub row_holds : {made : Making} {IsMade : Tree → Type 0} → IsMaker made IsMade → {image : Map} {terms : Terms} {x y : List ℕ} {s r : State} → AreBytes x → AreBytes y → Stands image IsMade terms x s → Stands image IsMade terms y r → (word : ℕ) (i : Instr) → IsPinned s r i → Hold (row_conditions made terms (effect x s word i).event (shown_by (effect x s word i).next) i) y
 unfolding effect
-row_holds m bx bs hx h word (Lui rd imm) p = tt
-row_holds m bx bs hx h word (Auipc rd imm) p = tt
-row_holds m bx bs hx h word (Jal rd offset) p = tt
+row_holds m {y = y} bx bs hx h word (Lui rd imm) p = hold_none y
+row_holds m {y = y} bx bs hx h word (Auipc rd imm) p = hold_none y
+row_holds m {y = y} bx bs hx h word (Jal rd offset) p = hold_none y
 row_holds {made} m {image} {terms} {x} {y} {s} {r} bx bs hx h word (Jalr rd rs1 imm) p =
     target_holds m y bs (sum_term made terms rs1 (bits imm)) _ (sum_made m h.made rs1 (bits imm) (bits_below imm))
     (ap even (sum_value m bs h rs1 (bits imm) (bits_below imm)) ∙ p ∙ sym (jump_shows s.pc (even (address_of s rs1 (bits imm))) (write_reg rd (following s.pc) s)))
 row_holds {made} m {image} {terms} {x} {y} {s} {r} bx bs hx h word (Branch cond rs1 rs2 offset) p =
     hold_if y (target_of s (bits offset) == following s.pc) [] (outcome made cond (reg_term terms rs1) (reg_term terms rs2) (shown_by (effect x s word (Branch cond rs1 rs2 offset)).next == target_of s (bits offset)))
-    (λ near. tt)
+    (λ near. hold_none y)
     (λ far. outcome_holds m y bs cond (reg_term terms rs1) (reg_term terms rs2) (shown_by (effect x s word (Branch cond rs1 rs2 offset)).next == target_of s (bits offset)) (h.made.registers rs1) (h.made.registers rs2)
     (sym (λ i. taken cond (reg_value h.agrees rs1 i) (reg_value h.agrees rs2 i))
     ∙ far_or_same p (eqb-false _ _ far)
@@ -113,12 +115,12 @@ row_holds {made} m {image} {terms} {x} {y} {s} {r} bx bs hx h word (Load width r
     pin_holds m y bs (sum_term made terms rs1 (bits imm)) (address_of s rs1 (bits imm)) (sum_made m h.made rs1 (bits imm) (bits_below imm)) (sum_value m bs h rs1 (bits imm) (bits_below imm) ∙ p)
 row_holds {made} m {image} {terms} {x} {y} {s} {r} bx bs hx h word (Store width rs1 rs2 imm) p =
     pin_holds m y bs (sum_term made terms rs1 (bits imm)) (address_of s rs1 (bits imm)) (sum_made m h.made rs1 (bits imm) (bits_below imm)) (sum_value m bs h rs1 (bits imm) (bits_below imm) ∙ p)
-row_holds m bx bs hx h word (AluImm op rd rs1 imm) p = tt
-row_holds m bx bs hx h word (AluReg op rd rs1 rs2) p = tt
-row_holds m bx bs hx h word (Fence bits') p = tt
+row_holds m {y = y} bx bs hx h word (AluImm op rd rs1 imm) p = hold_none y
+row_holds m {y = y} bx bs hx h word (AluReg op rd rs1 rs2) p = hold_none y
+row_holds m {y = y} bx bs hx h word (Fence bits') p = hold_none y
 row_holds {made} m {image} {terms} {x} {y} {s} {r} bx bs hx h word Ecall p =
     hold_both y (pin made (reg_term terms 17) (reg s 17)) _ (pin_holds m y bs (reg_term terms 17) (reg s 17) (h.made.registers 17) (sym (reg_value h.agrees 17) ∙ p.a7))
     (hold_both y (pin made (reg_term terms 10) (reg s 10)) _ (pin_holds m y bs (reg_term terms 10) (reg s 10) (h.made.registers 10) (sym (reg_value h.agrees 10) ∙ p.a0))
     (hold_both y (pin made (reg_term terms 11) (reg s 11)) _ (pin_holds m y bs (reg_term terms 11) (reg s 11) (h.made.registers 11) (sym (reg_value h.agrees 11) ∙ p.a1))
     (pin_holds m y bs (reg_term terms 12) (reg s 12) (h.made.registers 12) (sym (reg_value h.agrees 12) ∙ p.a2))))
-row_holds m bx bs hx h word Ebreak p = tt
+row_holds m {y = y} bx bs hx h word Ebreak p = hold_none y

@@ -1,5 +1,5 @@
 -- Programs, inputs, and runs that crash; and what each condition of such a run is like.
-use Rattle.std.specs.Prelude.{◌≡◌, ℕ, ◌%◌, List, [], ◌∷◌, true, All, length}
+use Rattle.std.specs.Prelude.{◌≡◌, ℕ, ◌%◌, List, [], ◌∷◌, true, All}
 use Rattle.elf32.specs.Loads.{Program}
 use Rattle.rv_event.specs.declared.event.End.{End}
 use Rattle.rv_event.specs.declared.event.End.TheVariants as ends
@@ -9,16 +9,12 @@ use Rattle.term_model.specs.Words.{AreBytes}
 use Rattle.term_model.specs.Places.{ReadsBelow, ReadsNothing}
 use Rattle.term_model.specs.Truth.{is_truth}
 use Rattle.rv_machine.specs.Trace.{transcript_of}
+use Rattle.input_laws.specs.Inputs.{IsInput}
 
 -- a program that a file gives: its entry is a multiple of 4, and its segments hold bytes
 pub record IsProgram (program : Program) : Type 0 where
   pub aligned : program.entry % 4 ≡ 0
   pub bytes : All (λ s. AreBytes s.bytes) program.segments
-
--- an input of n bytes
-pub record IsInput (n : ℕ) (y : List ℕ) : Type 0 where
-  pub length_is : length y ≡ n
-  pub bytes : AreBytes y
 
 -- the run was ended by a trap
 abbrev pub IsTrapped : End → Type 0

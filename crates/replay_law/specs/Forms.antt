@@ -1,5 +1,5 @@
 -- The forms that conditions have. `made` makes each term; `byte_of k v` is byte k of the number v.
-use Rattle.std.specs.Prelude.{◌≡◌, ℕ, ◌+◌, ◌-◌, ◌%◌, ◌^◌, ◌==◌, List, [], ◌∷◌, ◌++◌, ◌||◌, Bool, true, false, if◌then◌else◌}
+use Rattle.std.specs.Prelude.{ℕ, ◌+◌, ◌-◌, ◌%◌, ◌^◌, ◌==◌, List, [], ◌∷◌, ◌++◌, ◌||◌, Bool, true, false, if◌then◌else◌}
 use Rattle.std.specs.List.{list_any}
 use Rattle.rv_word.specs.declared.AluOp.TheVariants.{Add, And, Slt, Sltu}
 use Rattle.rv_word.specs.Word.{byte_of}
@@ -7,16 +7,10 @@ use Rattle.rv_decode.specs.declared.instr.Cond.{Cond}
 use Rattle.rv_decode.specs.declared.instr.Cond.TheVariants as conds
 use Rattle.term_model.specs.declared.Op.TheVariants.{Alu, Eq, Byte}
 use Rattle.term_model.specs.Tree.{Tree, Const, Apply}
-use Rattle.term_model.specs.Value.{val}
 use Rattle.term_model.specs.Same.{same_tree}
 use Rattle.replay_law.specs.Making.{Making}
 
 -- ---- lists of conditions
-
--- each of the conditions has the value 1 on an input
-abbrev pub Hold : List ℕ → List Tree → Type 0
-Hold y [] = Unit {0}
-Hold y (t ∷ ts) = (val t y ≡ 1) × Hold y ts
 
 -- conditions with another: the constant 1, and a term that is there, add nothing
 abbrev pub with_condition : List Tree → Tree → List Tree
@@ -79,8 +73,8 @@ abbrev pub fails : Making → Tree → List Tree
 fails made t = made Eq t (Const 0) ∷ []
 
 -- a truth term is 1
-abbrev pub holds : Tree → List Tree
-holds t = t ∷ []
+abbrev pub succeeds : Tree → List Tree
+succeeds t = t ∷ []
 
 -- a branch on two terms was taken, or was not
 abbrev pub outcome : Making → Cond → Tree → Tree → Bool → List Tree
@@ -88,11 +82,11 @@ outcome made conds.Eq a b true = equal made a b
 outcome made conds.Eq a b false = fails made (made Eq a b)
 outcome made conds.Ne a b true = fails made (made Eq a b)
 outcome made conds.Ne a b false = equal made a b
-outcome made conds.Lt a b true = holds (made (Alu Slt) a b)
+outcome made conds.Lt a b true = succeeds (made (Alu Slt) a b)
 outcome made conds.Lt a b false = fails made (made (Alu Slt) a b)
 outcome made conds.Ge a b true = fails made (made (Alu Slt) a b)
-outcome made conds.Ge a b false = holds (made (Alu Slt) a b)
-outcome made conds.Ltu a b true = holds (made (Alu Sltu) a b)
+outcome made conds.Ge a b false = succeeds (made (Alu Slt) a b)
+outcome made conds.Ltu a b true = succeeds (made (Alu Sltu) a b)
 outcome made conds.Ltu a b false = fails made (made (Alu Sltu) a b)
 outcome made conds.Geu a b true = fails made (made (Alu Sltu) a b)
-outcome made conds.Geu a b false = holds (made (Alu Sltu) a b)
+outcome made conds.Geu a b false = succeeds (made (Alu Sltu) a b)

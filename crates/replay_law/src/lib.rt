@@ -13,18 +13,19 @@ ghost use Rattle.std.specs.Prelude.{◌≡◌, ◌↔◌, ℕ, List, Bool, true,
 ghost use Rattle.elf32.specs.Loads.{Program};
 ghost use Rattle.rv_event.specs.declared.transcript.Transcript as runs;
 ghost use Rattle.term_model.specs.Tree.{Tree};
+ghost use Rattle.term_model.specs.Conditions.{Hold};
 ghost use Rattle.rv_machine.specs.Class.{in_class};
+ghost use Rattle.input_laws.specs.Inputs.{IsInput};
 ghost use Rattle.replay_law.specs.Making.{Making, IsMaker, IsCarefulMaker};
-ghost use Rattle.replay_law.specs.Forms.{Hold};
 ghost use Rattle.replay_law.specs.Follow.{conditions};
-ghost use Rattle.replay_law.specs.Crash.{IsProgram, IsInput, IsCrash, AreProper};
+ghost use Rattle.replay_law.specs.Crash.{IsProgram, IsCrash, AreProper};
 
 use rv_event::same_transcripts_are_equal;
 use term_model::same_trees_are_equal;
 
 /// The conditions of a run that a trap ends hold of exactly the inputs of its length that have this run.
 pub fn conditions_hold_of_the_class()
-    ensures class { (made : Making) (is_made : Tree → Bool) → IsMaker made (λ t. is_made t ≡ true) → (program : Program) (limit : ℕ) (x y : List ℕ) (run : runs.Transcript) → IsProgram program → IsCrash program limit x run → IsInput run.n y → Hold y (conditions made program run) ↔ IsTrue (in_class program limit run y) }
+    ensures class { (made : Making) (is_made : Tree → Bool) → IsMaker made (λ t. is_made t ≡ true) → (program : Program) (limit : ℕ) (x y : List ℕ) (run : runs.Transcript) → IsProgram program → IsCrash program limit x run → IsInput run.n y → Hold (conditions made program run) y ↔ IsTrue (in_class program limit run y) }
 {
     same_trees_are_equal();
     same_transcripts_are_equal();

@@ -5,12 +5,13 @@ use Rattle.std.proofs.lemmas.List.{length-set, length-map, get_or-set_same, get_
 use Rattle.std.proofs.lemmas.Bool.{cases_lt}
 use Rattle.std.proofs.lemmas.List.Elements.{Contains-get_or}
 use Rattle.term_model.specs.Tree.{Tree}
+use Rattle.term_model.specs.Conditions.{Hold, holds}
+use Rattle.term_arena.specs.Trees.{trees_of}
 use Rattle.input_laws.specs.Sets.{set_at, freed}
 use Rattle.input_laws.specs.Narrow.{freed_beside}
 use Rattle.byte_sets.specs.declared.ByteSet.{ByteSet}
 use Rattle.byte_sets.specs.ByteSet.{has}
 use Rattle.group_model.specs.declared.Group.{Group}
-use Rattle.group_model.specs.Conditions.{Hold, holds, trees_of}
 use Rattle.group_model.specs.Group.{IsAscending, HasAt, IsGroupFirst}
 use Rattle.group_model.proofs.HoldLemmas.{held}
 use Rattle.report_maker.specs.Filled.{IsDone, AreApart, IsLeft, IsFilled}

@@ -15,7 +15,7 @@ use Rattle.input_laws.specs.Sets.{IsChoice, revealed}
 use Rattle.report_maker.specs.Mask.{mask}
 use Rattle.report_maker.specs.Made.{first_input, sets_of, is_wide}
 use Rattle.report_maker.proofs.ClassLemmas.{first_of_length, member_has_trace}
-use Rattle.report_maker.proofs.MadeLemmas.{ClassLaw, class_by_conditions, traced_input}
+use Rattle.report_maker.proofs.MadeLemmas.{ClassLaw, class_by_conditions}
 use Rattle.report_maker.proofs.ChoiceLemmas.{choice_passes, class_is_bounded_by}
 
 -- the law that conditions are proper
@@ -31,7 +31,7 @@ module _ (class : ClassLaw) (proper : ProperLaw) (program : Program) (seed limit
   -- the report's input comes first
   comes_first : IsFirst t.n (mask seed t.n) (in_class program limit t) (first_input program seed limit t)
   comes_first =
-      let a : IsInput t.n x = traced_input t.n x crash.input in
+      let a : IsInput t.n x = crash.input in
       let P : ℕ → Type 0 = λ n. IsFirst n (mask seed n) (in_class program limit t) (first_input program seed limit t) in
       subst P a.long (first_of_length program seed limit x t a.in_range (sym crash.trace) (sym a.long))
 

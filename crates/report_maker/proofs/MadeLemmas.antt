@@ -1,26 +1,24 @@
 -- The report that is made of the groups is the one that is stated.
-use Rattle.std.proofs.Common.{◌≡◌, ◌∙◌, ◌<◌, ◌≤◌, ◌^◌, ◌%◌, inl, inr, ℕ, Bool, true, false, cond, List, [], ◌∷◌, length, map, get_or, Some, Result, Ok, Err, refl, sym, ap, subst, arith}
+use Rattle.std.proofs.Common.{◌≡◌, ◌∙◌, ◌<◌, ◌≤◌, ◌^◌, ◌%◌, inl, inr, ℕ, Bool, true, false, cond, List, [], ◌∷◌, length, map, Some, Result, Ok, Err, sym, ap, subst, arith}
 use Rattle.std.specs.Prelude.{◌↔◌, filter, All, Contains, slice_index, nat_lt, unwrap_or, IsTrue, IfOk}
-use Rattle.std.proofs.lemmas.List.{get_or_default}
 use Rattle.std.proofs.lemmas.List.Elements.{All-nil, All-cons, All-head, All-tail, All-map, All-contains, All-take, All-drop}
 use Rattle.std.proofs.lemmas.Bool.{cases_lt, ltb-true, lt-ltb}
 use Rattle.elf32.specs.declared.image.Image.{Image}
 use Rattle.elf32.specs.declared.segments.Segment.{Segment}
-use Rattle.elf32.specs.Loads.{Program, image_of, put, in_order, segment_of, segments_of}
 use Rattle.elf32.specs.Fields.{headers}
 use Rattle.elf32.specs.Rules.{is_loaded}
+use Rattle.elf32.specs.Loads.{Program, image_of, put, in_order, segment_of, segments_of, program_of}
 use Rattle.rv_event.specs.declared.event.Event.{Event}
 use Rattle.rv_event.specs.declared.event.Trap.{Trap}
 use Rattle.rv_event.specs.declared.transcript.Transcript.{Transcript}
 use Rattle.rv_machine.specs.Class.{in_class}
 use Rattle.term_model.specs.Tree.{Tree}
-use Rattle.term_model.specs.Value.{val}
 use Rattle.term_model.specs.Places.{ReadsBelow}
 use Rattle.term_model.specs.Words.{AreBytes}
-use Rattle.term_arena.specs.Trees.{tree_of}
-use Rattle.replay_law.specs.Forms.{Hold as Held}
+use Rattle.term_model.specs.Conditions.{Hold}
+use Rattle.term_model.proofs.ByteLemmas.{bytes_everywhere}
+use Rattle.term_arena.specs.Trees.{tree_of, trees_of}
 use Rattle.replay_law.specs.Crash.{IsProgram, IsCrash, IsProper, AreProper}
-use Rattle.replay_law.specs.Crash as crash
 use Rattle.trace_conditions.specs.Conditions.{conditions_of}
 use Rattle.input_laws.specs.Inputs.{IsInput}
 use Rattle.input_laws.specs.Order.{IsFirst, first}
@@ -29,19 +27,19 @@ use Rattle.input_laws.proofs.InOrder.{first_from_first_member}
 use Rattle.byte_sets.specs.declared.ByteSet.{ByteSet}
 use Rattle.byte_sets.specs.ByteSet.{has}
 use Rattle.group_model.specs.declared.Group.{Group}
-use Rattle.group_model.specs.Conditions.{Hold, trees_of, IsCondition}
+use Rattle.group_model.specs.Conditions.{IsCondition}
 use Rattle.group_model.specs.Division.{IsGrouped, AreGroups}
 use Rattle.group_laws.specs.Links.{sets_by_links, has_wide_group}
 use Rattle.group_laws.specs.Parts.{IsByConditions, HasFirst, HasSets}
 use Rattle.group_laws.proofs.Lists.{all_from, all_at_map, any_found, any_here}
 use Rattle.group_laws.proofs.Groups.{group_is_filled}
 use Rattle.group_laws.proofs.Links.{narrow_groups, wide_group}
-use Rattle.group_laws.proofs.Parts.{bytes_of_input, places_below, is_group, group_holds, first_from_groups}
+use Rattle.group_laws.proofs.Parts.{places_below, is_group, group_holds, first_from_groups}
 use Rattle.group_laws.proofs.Sets.{sets_are_filled}
 use Rattle.group_laws.proofs.Stays.{gathered_sets}
 use Rattle.sha2.specs.Sha256.{sha256}
 use Rattle.report_maker.specs.Mask.{mask}
-use Rattle.report_maker.specs.Divided.{program_of, AreDivided, some_is_wide}
+use Rattle.report_maker.specs.Divided.{AreDivided, some_is_wide}
 use Rattle.report_maker.specs.Filled.{IsNarrow, IsDone, IsLeft, IsFilled}
 use Rattle.report_maker.specs.Made.{first_input, sets_of, report_of}
 use Rattle.report_maker.proofs.MaskLemmas.{mask_is_input}
@@ -49,10 +47,6 @@ use Rattle.report_maker.proofs.ReadingLemmas.{reading}
 use Rattle.report_maker.proofs.ClassLemmas.{traced_is_member}
 
 -- ---- files
-
--- a list of bytes is one at every index
-pub bytes_everywhere : (xs : List ℕ) → All (λ byte. byte < 256) xs → AreBytes xs
-bytes_everywhere xs h = bytes_of_input (length xs) xs (record { long = refl; in_range = h })
 
 abbrev HoldsBytes : Segment → Type 0
 HoldsBytes s = AreBytes s.bytes
@@ -82,24 +76,15 @@ file_is_program p h aligned = record {
 
 -- ---- conditions
 
--- the conditions hold by the one list of facts exactly where they do by the other
-all_held : (y : List ℕ) (ts : List Tree) → Held y ts → Hold ts y
-all_held y [] h = All-nil (λ t. val t y ≡ 1)
-all_held y (t ∷ ts) h = All-cons (λ t. val t y ≡ 1) t ts h.0 (all_held y ts h.1)
-
-each_held : (y : List ℕ) (ts : List Tree) → Hold ts y → Held y ts
-each_held y [] h = tt
-each_held y (t ∷ ts) h = (All-head (λ t. val t y ≡ 1) t ts h, each_held y ts (All-tail (λ t. val t y ≡ 1) t ts h))
-
 -- the law of the conditions
 abbrev pub ClassLaw : Type 0
-ClassLaw = (program : Program) (limit : ℕ) (x y : List ℕ) (run : Transcript) → IsProgram program → IsCrash program limit x run → crash.IsInput run.n y → Held y (conditions_of program run) ↔ IsTrue (in_class program limit run y)
+ClassLaw = (program : Program) (limit : ℕ) (x y : List ℕ) (run : Transcript) → IsProgram program → IsCrash program limit x run → IsInput run.n y → Hold (conditions_of program run) y ↔ IsTrue (in_class program limit run y)
 
 -- an input is in the class exactly where the conditions hold
 pub class_by_conditions : ClassLaw → (program : Program) (limit : ℕ) (x : List ℕ) (t : Transcript) → IsProgram program → IsCrash program limit x t → IsByConditions t.n (in_class program limit t) (conditions_of program t)
 class_by_conditions law program limit x t is made y a =
-    let both : Held y (conditions_of program t) ↔ IsTrue (in_class program limit t y) = law program limit x y t is made (record { length_is = a.long; bytes = bytes_of_input t.n y a }) in
-    (λ m. all_held y (conditions_of program t) (both.1 m), λ h. both.0 (each_held y (conditions_of program t) h))
+    let both : Hold (conditions_of program t) y ↔ IsTrue (in_class program limit t y) = law program limit x y t is made a in
+    (both.1, both.0)
 
 is_condition : (trees : List Tree) (n t : ℕ) → t < length trees → IsProper n (tree_of trees t) → IsCondition trees t
 is_condition trees n t l p = elim (reading (tree_of trees t)) [
@@ -144,7 +129,7 @@ module _ (trees conditions : List Tree) (n : ℕ) (groups : List Group) (divided
     some = group_is_filled trees divided.terms groups divided.are g c;
     narrow = All-contains (λ (g : Group). length g.places ≤ 2) groups g (none_is_wide none) c;
     below = places_below trees divided.terms groups divided.are n divided.below g c;
-    possible = (x, bytes_of_input n x input, group_holds trees divided.terms groups divided.are g c x (subst (λ ts. Hold ts x) (sym divided.trees_are) h));
+    possible = (x, bytes_everywhere x input.in_range, group_holds trees divided.terms groups divided.are g c x (subst (λ ts. Hold ts x) (sym divided.trees_are) h));
   })
 
   module _ (mask input : List ℕ) (sets : List (ℕ → Bool)) (masked : IsInput n mask) (is_input : IsInput n input)
@@ -243,20 +228,16 @@ module _ (program : Program) (t : Transcript) (trees : List Tree) (listed terms 
 pub same_program : (image : Image) (p : List ℕ) → image.entry ≡ (image_of p).entry → image.segments ≡ (image_of p).segments → program_of image ≡ image_of p
 same_program image p entry segments = λ i. record { entry = entry i; segments = segments i }
 
--- the traced input is one of its length
-pub traced_input : (n : ℕ) (x : List ℕ) → crash.IsInput n x → IsInput n x
-traced_input n x is = record { long = is.length_is; in_range = λ k d l. let e : get_or x k d ≡ get_or x k 0 = get_or_default x k d 0 l in let b : slice_index x k < 256 = is.bytes k in omega arith }
-
--- the conditions hold of it
+-- the conditions hold of the traced input
 traced_holds : ClassLaw → (program : Program) (limit : ℕ) (x : List ℕ) (t : Transcript) → IsProgram program → IsCrash program limit x t → Hold (conditions_of program t) x
 traced_holds law program limit x t is made =
-    (class_by_conditions law program limit x t is made x (traced_input t.n x made.input)).0 (traced_is_member program limit t x (sym made.trace))
+    (class_by_conditions law program limit x t is made x made.input).0 (traced_is_member program limit t x (sym made.trace))
 
 -- the groups can be filled
 pub groups_are_ready : ClassLaw → (program : Program) (limit : ℕ) (x : List ℕ) (t : Transcript) → IsProgram program → IsCrash program limit x t → t.n ≤ 65536
     → (trees : List Tree) (groups : List Group) (order : List ℕ) → AreDivided trees (conditions_of program t) t.n groups → some_is_wide groups ≡ false → length order ≡ t.n → All (IsNarrow trees (length order)) groups
 groups_are_ready law program limit x t is made few trees groups order divided none long =
-    let narrow : All (IsNarrow trees t.n) groups = groups_are_narrow trees (conditions_of program t) t.n groups divided none (omega arith) x (traced_input t.n x made.input) (traced_holds law program limit x t is made) in
+    let narrow : All (IsNarrow trees t.n) groups = groups_are_narrow trees (conditions_of program t) t.n groups divided none (omega arith) x made.input (traced_holds law program limit x t is made) in
     let P : ℕ → Type 0 = λ k. All (IsNarrow trees k) groups in
     subst P (sym long) narrow
 

@@ -5,14 +5,10 @@ use Rattle.elf32.specs.declared.image.Image.{Image}
 use Rattle.elf32.specs.Loads.{Program}
 use Rattle.term_model.specs.Tree.{Tree}
 use Rattle.term_model.specs.Places.{ReadsBelow}
-use Rattle.term_arena.specs.Trees.{tree_of}
+use Rattle.term_arena.specs.Trees.{tree_of, trees_of}
 use Rattle.group_model.specs.declared.Group.{Group}
-use Rattle.group_model.specs.Conditions.{IsCondition, trees_of}
+use Rattle.group_model.specs.Conditions.{IsCondition}
 use Rattle.group_model.specs.Division.{AreGroups}
-
--- the program of an image
-abbrev pub program_of : Image → Program
-program_of image = record { entry = image.entry; segments = image.segments }
 
 -- the groups are those of some terms of the arena, whose trees are the conditions: truth terms that read places below n
 pub record AreDivided (trees conditions : List Tree) (n : ℕ) (groups : List Group) : Type 0 where

@@ -2,10 +2,11 @@
 use Rattle.std.specs.Prelude.{◌≡◌, ℕ, ◌<◌, ◌≤◌, Bool, List, length, slice_index, nat_lt, All, AllPairs, Contains}
 use Rattle.term_model.specs.Tree.{Tree}
 use Rattle.term_model.specs.Words.{AreBytes}
+use Rattle.term_model.specs.Conditions.{Hold, holds}
+use Rattle.term_arena.specs.Trees.{trees_of}
 use Rattle.input_laws.specs.Sets.{set_at, freed}
 use Rattle.input_laws.specs.Narrow.{freed_beside}
 use Rattle.group_model.specs.declared.Group.{Group}
-use Rattle.group_model.specs.Conditions.{Hold, holds, trees_of}
 use Rattle.group_model.specs.Group.{IsGroup, HasAt, IsGroupFirst}
 
 -- a group of one place or two below n, which some bytes meet

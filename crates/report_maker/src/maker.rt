@@ -1,13 +1,13 @@
 //! The report of a run.
 
 ghost use Rattle.std.specs.Prelude.{◌≡◌, ◌≤◌, ◌<◌, ◌^◌, ℕ, List, true, false, Err, All, length, IfOk};
-ghost use Rattle.elf32.specs.Loads.{image_of};
+ghost use Rattle.elf32.specs.Loads.{image_of, program_of};
 ghost use Rattle.replay_law.specs.Crash.{IsProgram, IsCrash};
 ghost use Rattle.trace_conditions.specs.Conditions.{conditions_of};
 ghost use Rattle.input_laws.specs.Sets.{size};
 ghost use Rattle.byte_sets.specs.ByteSet.{has};
 ghost use Rattle.report_format.specs.Text.{content_of};
-ghost use Rattle.report_maker.specs.Divided.{program_of, AreDivided, some_is_wide};
+ghost use Rattle.report_maker.specs.Divided.{AreDivided, some_is_wide};
 ghost use Rattle.report_maker.specs.Made.{IsCrashBy, is_wide, number_of_groups, report_of};
 
 use crate::error::MakeError;

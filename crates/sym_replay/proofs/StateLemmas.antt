@@ -4,11 +4,10 @@ use Rattle.std.specs.Ordering.{nat_cmp}
 use Rattle.std.specs.BTreeMap.{BTreeMap, get, Updates, is_at}
 use Rattle.std.proofs.lemmas.List.{map-set}
 use Rattle.term_model.specs.Tree.{Tree, Const, Input}
-use Rattle.term_arena.specs.Trees.{tree_of, Extends}
+use Rattle.term_arena.specs.Trees.{tree_of, Extends, trees_of}
 use Rattle.normal_form.specs.Normal.{IsNormal}
 use Rattle.memory_map.specs.Cells.{Map, next_address}
 use Rattle.replay_law.specs.Terms.{Terms, with_tree, put_trees, input_terms}
-use Rattle.path_condition.specs.Listed.{trees_of}
 use Rattle.path_condition.specs.Sums.{IsTermOf}
 use Rattle.path_condition.proofs.ListLemmas.{grown_trees}
 use Rattle.sym_replay.specs.declared.state.State.{State}

@@ -3,11 +3,10 @@ use Rattle.std.specs.Prelude.{◌≡◌, ℕ, ◌<◌, List, length, slice_index
 use Rattle.std.specs.Ordering.{nat_cmp}
 use Rattle.std.specs.BTreeMap.{get}
 use Rattle.term_model.specs.Tree.{Tree, Const}
-use Rattle.term_arena.specs.Trees.{tree_of}
+use Rattle.term_arena.specs.Trees.{tree_of, trees_of}
 use Rattle.normal_form.specs.Normal.{IsNormal}
 use Rattle.memory_map.specs.Cells.{Map, byte_at}
 use Rattle.replay_law.specs.Terms.{Terms}
-use Rattle.path_condition.specs.Listed.{trees_of}
 use Rattle.sym_replay.specs.declared.state.State.{State}
 
 -- the tree at an address: that of a term that was put there, or the constant of the image's byte

@@ -4,7 +4,7 @@ ghost use Rattle.std.specs.Prelude.{◌≡◌, ◌<◌, ◌≤◌, ◌+◌, ◌-
 ghost use Rattle.rv_word.specs.declared.AluOp.TheVariants.{Add};
 ghost use Rattle.term_model.specs.declared.Op.TheVariants.{Alu};
 ghost use Rattle.term_model.specs.Tree.{Tree, Const};
-ghost use Rattle.term_arena.specs.Trees.{tree_of, Extends};
+ghost use Rattle.term_arena.specs.Trees.{tree_of, Extends, trees_of};
 ghost use Rattle.normal_form.specs.Norm.{norm};
 ghost use Rattle.normal_form.specs.Normal.{IsNormal, TakesByteNumber};
 ghost use Rattle.memory_map.specs.Cells.{Map, start_map, next_address};
@@ -16,7 +16,7 @@ ghost use Rattle.replay_law.specs.Terms.{reg_term};
 ghost use Rattle.replay_law.specs.Terms as definitions;
 ghost use Rattle.replay_law.specs.Follow.{fetched_byte, fetch_conditions, row_conditions, instr_conditions, conditions_of};
 ghost use Rattle.rv_decode.specs.Table.{decoded};
-ghost use Rattle.path_condition.specs.Listed.{trees_of, Belong};
+ghost use Rattle.path_condition.specs.Listed.{Belong};
 ghost use Rattle.path_condition.specs.Sums.{IsTermOf};
 ghost use Rattle.sym_replay.specs.States.{terms_of, register_tree, IsTermIn, IsState};
 ghost use Rattle.sym_replay.specs.Pins.{call_conditions};
@@ -58,7 +58,7 @@ fn add_comparison(
     requires first { IsTermIn arena.old a }
     requires second { IsTermIn arena.old b }
     requires comparison { TakesByteNumber op (tree_of arena.old b) }
-    ensures trees { OnOk result (trees_of arena.new conditions.new ≡ with_conditions (trees_of arena.old conditions.old) (if holds then forms.holds (norm op (tree_of arena.old a) (tree_of arena.old b)) else forms.fails norm (norm op (tree_of arena.old a) (tree_of arena.old b)))) }
+    ensures trees { OnOk result (trees_of arena.new conditions.new ≡ with_conditions (trees_of arena.old conditions.old) (if holds then forms.succeeds (norm op (tree_of arena.old a) (tree_of arena.old b)) else forms.fails norm (norm op (tree_of arena.old a) (tree_of arena.old b)))) }
     ensures listed { Belong arena.new conditions.new }
     ensures keeps { Extends arena.old arena.new }
 {
@@ -109,7 +109,7 @@ fn add_fetched_byte(
     requires listed { Belong arena.old conditions.old }
     requires state { IsState arena.old state.now }
     requires byte { k < 4 }
-    ensures trees { OnOk result (trees_of arena.new conditions.new ≡ with_conditions (trees_of arena.old conditions.old) (forms.holds (fetched_byte norm (terms_of arena.old (start_map image.now.segments) state.now) address word k))) }
+    ensures trees { OnOk result (trees_of arena.new conditions.new ≡ with_conditions (trees_of arena.old conditions.old) (forms.succeeds (fetched_byte norm (terms_of arena.old (start_map image.now.segments) state.now) address word k))) }
     ensures listed { Belong arena.new conditions.new }
     ensures keeps { Extends arena.old arena.new }
 {

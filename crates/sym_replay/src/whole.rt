@@ -1,12 +1,14 @@
 //! The replay of a whole run.
 
 ghost use Rattle.std.specs.Prelude.{◌≡◌, ◌<◌, ◌≤◌, ◌+◌, ◌↔◌, ℕ, List, [], length, drop, slice_get, IfOk, IsTrue};
-ghost use Rattle.term_arena.specs.Trees.{Extends};
+ghost use Rattle.elf32.specs.Loads.{program_of};
 ghost use Rattle.rv_machine.specs.Class.{in_class};
-ghost use Rattle.replay_law.specs.Forms.{Hold};
+ghost use Rattle.term_model.specs.Conditions.{Hold};
+ghost use Rattle.term_arena.specs.Trees.{Extends, trees_of};
+ghost use Rattle.input_laws.specs.Inputs.{IsInput};
 ghost use Rattle.replay_law.specs.Follow.{shown_next};
-ghost use Rattle.replay_law.specs.Crash.{IsProgram, IsCrash, IsInput, AreProper};
-ghost use Rattle.path_condition.specs.Listed.{trees_of, Belong};
+ghost use Rattle.replay_law.specs.Crash.{IsProgram, IsCrash, AreProper};
+ghost use Rattle.path_condition.specs.Listed.{Belong};
 ghost use Rattle.trace_conditions.specs.Conditions.{conditions_of};
 
 use crate::pins::add_event;
@@ -51,9 +53,9 @@ pub fn replay(
     transcript: &Transcript,
     arena: &mut Arena,
 ) -> Result<Conditions, AllocError>
-    ensures trees { IfOk result (λ c. trees_of arena.new c ≡ conditions_of (record { entry = image.now.entry; segments = image.now.segments }) transcript.now) }
-    ensures class { (limit : ℕ) (x y : List ℕ) → IsProgram (record { entry = image.now.entry; segments = image.now.segments }) → IsCrash (record { entry = image.now.entry; segments = image.now.segments }) limit x transcript.now → IsInput transcript.now.n y → IfOk result (λ c. Hold y (trees_of arena.new c) ↔ IsTrue (in_class (record { entry = image.now.entry; segments = image.now.segments }) limit transcript.now y)) }
-    ensures proper { (limit : ℕ) (x : List ℕ) → IsProgram (record { entry = image.now.entry; segments = image.now.segments }) → IsCrash (record { entry = image.now.entry; segments = image.now.segments }) limit x transcript.now → IfOk result (λ c. AreProper transcript.now.n (trees_of arena.new c)) }
+    ensures trees { IfOk result (λ c. trees_of arena.new c ≡ conditions_of (program_of image.now) transcript.now) }
+    ensures class { (limit : ℕ) (x y : List ℕ) → IsProgram (program_of image.now) → IsCrash (program_of image.now) limit x transcript.now → IsInput transcript.now.n y → IfOk result (λ c. Hold (trees_of arena.new c) y ↔ IsTrue (in_class (program_of image.now) limit transcript.now y)) }
+    ensures proper { (limit : ℕ) (x : List ℕ) → IsProgram (program_of image.now) → IsCrash (program_of image.now) limit x transcript.now → IfOk result (λ c. AreProper transcript.now.n (trees_of arena.new c)) }
     ensures listed { IfOk result (Belong arena.new) }
     ensures keeps { Extends arena.old arena.new }
 {

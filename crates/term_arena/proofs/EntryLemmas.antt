@@ -12,7 +12,7 @@ use Rattle.term_arena.specs.Trees.{tree_of, tree_from, IsNodeAt}
 use Rattle.term_arena.specs.Mask.{each_byte}
 use Rattle.term_arena.specs.Nodes.{node_cmp}
 use Rattle.term_arena.specs.Entries.{nodes_of, entry_trees, HasZeroBytes, IsArena}
-use Rattle.term_arena.proofs.TreeLemmas.{tree_count, trees_of-push, tree_of_node, tree_of-append}
+use Rattle.term_arena.proofs.TreeLemmas.{tree_count, trees_of_nodes-push, tree_of_node, tree_of-append}
 use Rattle.term_arena.proofs.IndexLemmas.{push_at, tree_of-end, IsIndexed-push, IsIndexed-unchanged}
 
 pub length-nodes_of : (es : List Entry) → length (nodes_of es) ≡ length es
@@ -27,7 +27,7 @@ entry_count es = tree_count (nodes_of es) ∙ length-nodes_of es
 
 -- the trees with one more entry
 pub entry_trees-push : (es : List Entry) (e : Entry) → entry_trees (es ++ e ∷ []) ≡ entry_trees es ++ tree_from (entry_trees es) e.node ∷ []
-entry_trees-push es e = rw (nodes_of-push es e) (trees_of-push (nodes_of es) e.node)
+entry_trees-push es e = rw (nodes_of-push es e) (trees_of_nodes-push (nodes_of es) e.node)
 
 pub nodes_of-get : (es : List Entry) (k : ℕ) (e : Entry) → slice_get es k ≡ Some e → slice_get (nodes_of es) k ≡ Some e.node
 nodes_of-get es k e h = slice_get-map (λ (e : Entry). e.node) es k ∙ ap (option_map (λ (e : Entry). e.node)) h

@@ -7,7 +7,7 @@ use Rattle.term_arena.specs.declared.nodes.Node.{Node}
 use Rattle.term_arena.specs.declared.store.Entry.{Entry}
 use Rattle.term_arena.specs.Trees.{tree_of}
 use Rattle.term_arena.specs.Mask.{each_byte}
-use Rattle.term_arena.specs.Nodes.{trees_of, IsIndexed}
+use Rattle.term_arena.specs.Nodes.{trees_of_nodes, IsIndexed}
 
 -- the nodes of the entries
 abbrev pub nodes_of : List Entry → List Node
@@ -15,7 +15,7 @@ nodes_of entries = map (λ (e : Entry). e.node) entries
 
 -- the trees of the entries
 abbrev pub entry_trees : List Entry → List Tree
-entry_trees entries = trees_of (nodes_of entries)
+entry_trees entries = trees_of_nodes (nodes_of entries)
 
 -- each entry has the zero bytes of its tree
 abbrev pub HasZeroBytes : List Entry → Type 0

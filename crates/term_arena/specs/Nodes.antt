@@ -13,8 +13,8 @@ grow trees [] = trees
 grow trees (n ∷ ns) = grow (trees ++ tree_from trees n ∷ []) ns
 
 -- the trees of a list of nodes, each of which may name those before it
-abbrev pub trees_of : List Node → List Tree
-trees_of nodes = grow [] nodes
+abbrev pub trees_of_nodes : List Node → List Tree
+trees_of_nodes nodes = grow [] nodes
 
 -- the derived order of nodes
 abbrev pub node_cmp : Node → Node → Ordering

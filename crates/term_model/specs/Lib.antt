@@ -7,3 +7,4 @@ pub mod Truth
 pub mod Same
 pub mod Order
 pub mod Code
+pub mod Conditions

@@ -11,12 +11,14 @@ ghost use Rattle.rv_event.specs.declared.transcript.Transcript as runs;
 ghost use Rattle.term_model.specs.Tree.{Tree};
 ghost use Rattle.term_model.specs.Value.{val};
 ghost use Rattle.term_model.specs.Words.{AreBytes};
+ghost use Rattle.term_model.specs.Conditions.{Hold};
 ghost use Rattle.normal_form.specs.Norm.{norm};
 ghost use Rattle.normal_form.specs.Normal.{IsNormal};
 ghost use Rattle.rv_machine.specs.Class.{in_class};
 ghost use Rattle.rv_machine.specs.Effects.{even};
-ghost use Rattle.replay_law.specs.Forms.{Hold, equal, pin, target, with_conditions};
-ghost use Rattle.replay_law.specs.Crash.{IsProgram, IsInput, IsCrash, AreProper};
+ghost use Rattle.input_laws.specs.Inputs.{IsInput};
+ghost use Rattle.replay_law.specs.Forms.{equal, pin, target, with_conditions};
+ghost use Rattle.replay_law.specs.Crash.{IsProgram, IsCrash, AreProper};
 ghost use Rattle.trace_conditions.specs.Conditions.{conditions_of};
 
 use normal_form::{closed_terms_are_constants, normal_form_is_normal, normal_form_keeps_the_value};
@@ -26,7 +28,7 @@ use term_model::{same_trees_are_equal, values_are_words};
 /// The conditions of a run that a trap ended hold of an input of its length exactly where the program's run on that input
 /// tells the same.
 pub fn conditions_hold_of_the_class()
-    ensures class { (program : Program) (limit : ℕ) (x y : List ℕ) (run : runs.Transcript) → IsProgram program → IsCrash program limit x run → IsInput run.n y → Hold y (conditions_of program run) ↔ IsTrue (in_class program limit run y) }
+    ensures class { (program : Program) (limit : ℕ) (x y : List ℕ) (run : runs.Transcript) → IsProgram program → IsCrash program limit x run → IsInput run.n y → Hold (conditions_of program run) y ↔ IsTrue (in_class program limit run y) }
 {
     normal_form_is_normal();
     normal_form_keeps_the_value();
@@ -49,9 +51,9 @@ pub fn conditions_are_proper()
 /// What each form of condition says of an input: that two terms have one value, that a term has a value, or that a sum has
 /// a value once its lowest bit is cleared.
 pub fn forms_say_what_they_name()
-    ensures equal { (a b : Tree) (y : List ℕ) → IsNormal a → IsNormal b → AreBytes y → Hold y (equal norm a b) ↔ (val a y ≡ val b y) }
-    ensures pin { (t : Tree) (value : ℕ) (y : List ℕ) → IsNormal t → value < 2 ^ 32 → AreBytes y → Hold y (pin norm t value) ↔ (val t y ≡ value) }
-    ensures target { (sum : Tree) (value : ℕ) (y : List ℕ) → IsNormal sum → value < 2 ^ 32 → value % 2 ≡ 0 → AreBytes y → Hold y (target norm sum value) ↔ (even (val sum y) ≡ value) }
+    ensures equal { (a b : Tree) (y : List ℕ) → IsNormal a → IsNormal b → AreBytes y → Hold (equal norm a b) y ↔ (val a y ≡ val b y) }
+    ensures pin { (t : Tree) (value : ℕ) (y : List ℕ) → IsNormal t → value < 2 ^ 32 → AreBytes y → Hold (pin norm t value) y ↔ (val t y ≡ value) }
+    ensures target { (sum : Tree) (value : ℕ) (y : List ℕ) → IsNormal sum → value < 2 ^ 32 → value % 2 ≡ 0 → AreBytes y → Hold (target norm sum value) y ↔ (even (val sum y) ≡ value) }
 {
     normal_form_is_normal();
     normal_form_keeps_the_value();
@@ -60,7 +62,7 @@ pub fn forms_say_what_they_name()
 
 /// Conditions with more, of which those that add nothing are left out, hold of an input exactly where both lists do.
 pub fn lists_hold_together()
-    ensures together { (ts more : List Tree) (y : List ℕ) → Hold y (with_conditions ts more) ↔ (Hold y ts × Hold y more) }
+    ensures together { (ts more : List Tree) (y : List ℕ) → Hold (with_conditions ts more) y ↔ (Hold ts y × Hold more y) }
 {
     same_trees_are_equal();
 }

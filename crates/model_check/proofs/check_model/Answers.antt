@@ -1,5 +1,6 @@
 use Rattle.std.proofs.Common.{◌≡◌, false, sym, ◌∙◌}
-use Rattle.group_model.specs.Conditions.{holds, trees_of}
+use Rattle.term_model.specs.Conditions.{holds}
+use Rattle.term_arena.specs.Trees.{trees_of}
 use Rattle.group_model.proofs.HoldLemmas.{failed_at, passed}
 use Rattle.model_check.proofs.check_model.Goals as goal
 

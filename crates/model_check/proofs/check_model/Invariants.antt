@@ -1,5 +1,6 @@
 use Rattle.std.proofs.Common.{◌≡◌, true, take}
-use Rattle.group_model.specs.Conditions.{holds, trees_of}
+use Rattle.term_model.specs.Conditions.{holds}
+use Rattle.term_arena.specs.Trees.{trees_of}
 use Rattle.model_check.proofs.check_model.Given as goal
 
 abbrev pub invariant-loop-condition : goal.invariant-loop-condition

@@ -1,6 +1,6 @@
 use Rattle.std.proofs.Common.{◌≡◌, ℕ, ◌<◌, [], ◌∷◌, length, take, subst, sym, arith}
 use Rattle.std.specs.Prelude.{slice_index}
-use Rattle.group_model.specs.Conditions.{trees_of}
+use Rattle.term_arena.specs.Trees.{trees_of}
 use Rattle.group_model.specs.Group.{IsGroupFirst}
 use Rattle.narrow_solve.proofs.GroupLemmas.{group_reads, narrow_one, narrow_two, some_one, some_pair}
 use Rattle.narrow_solve.proofs.first_for.Goals as goal

@@ -1,10 +1,11 @@
 use Rattle.std.proofs.Common.{◌≡◌, ℕ, ◌<◌, Bool, List, [], ◌∷◌, length, sym, ◌∙◌, arith}
 use Rattle.std.specs.Prelude.{slice_index, nat_lt}
+use Rattle.term_model.specs.Conditions.{holds}
+use Rattle.term_arena.specs.Trees.{trees_of}
 use Rattle.input_laws.specs.Narrow.{freed_beside}
 use Rattle.std.proofs.lemmas.List.{length-set}
 use Rattle.input_laws.specs.Sets.{freed}
 use Rattle.byte_sets.specs.ByteSet.{has}
-use Rattle.group_model.specs.Conditions.{holds, trees_of}
 use Rattle.narrow_solve.specs.Tried.{with_pair}
 use Rattle.narrow_solve.proofs.GroupLemmas.{group_reads, looks_one, first_passes, freed_is_one, in_order, pair_first_passes, second_passes, sets_of_two, at_high}
 use Rattle.narrow_solve.proofs.sets_for.Goals as goal

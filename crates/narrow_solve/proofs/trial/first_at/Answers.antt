@@ -1,5 +1,6 @@
 use Rattle.std.proofs.Common.{rules, sym, ◌∙◌}
-use Rattle.group_model.specs.Conditions.{holds, trees_of}
+use Rattle.term_model.specs.Conditions.{holds}
+use Rattle.term_arena.specs.Trees.{trees_of}
 use Rattle.narrow_solve.proofs.TriedLemmas.{tried_more, none_tried}
 use Rattle.narrow_solve.proofs.trial.first_at.Goals as goal
 

@@ -1,6 +1,7 @@
 use Rattle.std.proofs.Common.{◌≢◌, ◌∙◌, arith}
 use Rattle.std.specs.Prelude.{slice_index}
-use Rattle.group_model.specs.Conditions.{holds, trees_of}
+use Rattle.term_model.specs.Conditions.{holds}
+use Rattle.term_arena.specs.Trees.{trees_of}
 use Rattle.narrow_solve.proofs.TriedLemmas.{pairs_more, found_pair}
 use Rattle.narrow_solve.proofs.trial.first_pair.Goals as goal
 

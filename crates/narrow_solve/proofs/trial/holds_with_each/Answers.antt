@@ -1,7 +1,8 @@
 use Rattle.std.proofs.Common.{rules, ◌≡◌, true, false, sym, ◌∙◌, subst, List, ℕ, ◌+◌, arith}
 use Rattle.std.proofs.lemmas.List.{set-set}
+use Rattle.term_model.specs.Conditions.{holds}
+use Rattle.term_arena.specs.Trees.{trees_of}
 use Rattle.byte_sets.specs.ByteSet.{has}
-use Rattle.group_model.specs.Conditions.{holds, trees_of}
 use Rattle.narrow_solve.proofs.ValueLemmas.{HaveHeld, held_more, held_same, each_held, one_failed}
 use Rattle.narrow_solve.proofs.trial.holds_with_each.Goals as goal
 use Rattle.narrow_solve.proofs.trial.holds_with_each.Goals.{then-contains+else-not-check_model, else-contains}

@@ -1,6 +1,7 @@
 use Rattle.std.proofs.Common.{◌≡◌}
+use Rattle.term_model.specs.Conditions.{holds}
+use Rattle.term_arena.specs.Trees.{trees_of}
 use Rattle.byte_sets.specs.ByteSet.{has}
-use Rattle.group_model.specs.Conditions.{holds, trees_of}
 use Rattle.narrow_solve.proofs.ValueLemmas.{HaveHeld}
 use Rattle.narrow_solve.proofs.trial.holds_with_each.Given as goal
 

@@ -1,8 +1,9 @@
 use Rattle.std.proofs.Common.{◌≡◌, ℕ}
 use Rattle.std.specs.Prelude.{slice_set}
+use Rattle.term_model.specs.Conditions.{holds}
+use Rattle.term_arena.specs.Trees.{trees_of}
 use Rattle.input_laws.specs.Sets.{freed}
 use Rattle.byte_sets.specs.ByteSet.{has}
-use Rattle.group_model.specs.Conditions.{holds, trees_of}
 use Rattle.narrow_solve.proofs.ValueLemmas.{AreGathered}
 use Rattle.narrow_solve.proofs.trial.values_at.Given as goal
 

@@ -1,6 +1,7 @@
 use Rattle.std.proofs.Common.{◌≢◌, ◌∙◌, ap, inl, inr, arith}
+use Rattle.term_model.specs.Conditions.{holds}
+use Rattle.term_arena.specs.Trees.{trees_of}
 use Rattle.byte_sets.specs.ByteSet.{has}
-use Rattle.group_model.specs.Conditions.{holds, trees_of}
 use Rattle.narrow_solve.proofs.ValueLemmas.{beside_more}
 use Rattle.narrow_solve.proofs.trial.values_beside.Goals as goal
 use Rattle.narrow_solve.proofs.trial.values_beside.Goals.{then-holds_with_each, else-holds_with_each}

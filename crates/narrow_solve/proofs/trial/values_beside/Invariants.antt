@@ -1,6 +1,7 @@
 use Rattle.std.proofs.Common.{◌≡◌}
+use Rattle.term_model.specs.Conditions.{holds}
+use Rattle.term_arena.specs.Trees.{trees_of}
 use Rattle.byte_sets.specs.ByteSet.{has}
-use Rattle.group_model.specs.Conditions.{holds, trees_of}
 use Rattle.narrow_solve.proofs.ValueLemmas.{AreBeside}
 use Rattle.narrow_solve.proofs.trial.values_beside.Given as goal
 

@@ -1,6 +1,7 @@
+use Rattle.elf32.specs.Loads.{program_of}
 use Rattle.group_model.specs.Division.{AreGroups}
 use Rattle.trace_conditions.specs.Conditions.{conditions_of}
-use Rattle.report_maker.specs.Divided.{program_of, AreDivided}
+use Rattle.report_maker.specs.Divided.{AreDivided}
 use Rattle.report_maker.proofs.MadeLemmas.{listed_are_conditions, divided_from, value_has}
 use Rattle.report_maker.proofs.maker.divide.Goals as goal
 

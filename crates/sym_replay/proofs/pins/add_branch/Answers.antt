@@ -1,9 +1,8 @@
 use Rattle.std.proofs.Common.{◌==◌}
 use Rattle.std.proofs.lemmas.Bool.{eq-eqb}
-use Rattle.term_arena.specs.Trees.{tree_of}
+use Rattle.term_arena.specs.Trees.{tree_of, trees_of}
 use Rattle.normal_form.specs.Norm.{norm}
 use Rattle.replay_law.specs.Forms.{outcome}
-use Rattle.path_condition.specs.Listed.{trees_of}
 use Rattle.sym_replay.proofs.PinLemmas.{none_more}
 use Rattle.sym_replay.proofs.pins.add_branch.Goals as goal
 

@@ -1,7 +1,7 @@
 use Rattle.std.proofs.Common.{◌∙◌, slice_index}
+use Rattle.term_arena.specs.Trees.{trees_of}
 use Rattle.normal_form.specs.Norm.{norm}
 use Rattle.replay_law.specs.Forms.{pin, with_conditions}
-use Rattle.path_condition.specs.Listed.{trees_of}
 use Rattle.path_condition.proofs.ListLemmas.{then_ok}
 use Rattle.sym_replay.specs.States.{register_tree}
 use Rattle.sym_replay.proofs.StateLemmas.{further}

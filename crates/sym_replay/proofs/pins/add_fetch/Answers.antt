@@ -1,9 +1,9 @@
 use Rattle.std.proofs.Common.{◌∙◌, [], ◌∷◌}
+use Rattle.term_arena.specs.Trees.{trees_of}
 use Rattle.normal_form.specs.Norm.{norm}
 use Rattle.memory_map.specs.Cells.{start_map, next_address}
 use Rattle.replay_law.specs.Forms.{with_conditions}
 use Rattle.replay_law.specs.Follow.{fetched_byte}
-use Rattle.path_condition.specs.Listed.{trees_of}
 use Rattle.path_condition.proofs.ListLemmas.{then_ok}
 use Rattle.sym_replay.specs.States.{terms_of}
 use Rattle.sym_replay.proofs.StateLemmas.{further, grown_terms}

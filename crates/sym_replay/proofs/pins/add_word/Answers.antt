@@ -1,11 +1,11 @@
 use Rattle.std.proofs.Common.{◌∙◌, sym, ap, ◌++◌, List, Option}
 use Rattle.term_model.specs.Tree.{Tree}
 use Rattle.rv_decode.specs.declared.instr.Instr.{Instr}
+use Rattle.term_arena.specs.Trees.{trees_of}
 use Rattle.normal_form.specs.Norm.{norm}
 use Rattle.memory_map.specs.Cells.{start_map}
 use Rattle.replay_law.specs.Forms.{with_conditions}
 use Rattle.replay_law.specs.Follow.{fetch_conditions, row_conditions, instr_conditions}
-use Rattle.path_condition.specs.Listed.{trees_of}
 use Rattle.path_condition.proofs.ListLemmas.{then_ok}
 use Rattle.sym_replay.specs.States.{terms_of}
 use Rattle.sym_replay.proofs.StateLemmas.{grown_state, grown_terms}

@@ -1,16 +1,17 @@
 use Rattle.std.proofs.Common.{◌≡◌, ◌↔◌, IsTrue, ℕ, ◌+◌, ◌<◌, List, [], length, drop, Some, sym, ap, subst, ◌∙◌, arith}
 use Rattle.std.specs.Prelude.{slice_get}
-use Rattle.elf32.specs.Loads.{Program}
+use Rattle.elf32.specs.Loads.{Program, program_of}
 use Rattle.term_model.specs.Tree.{Tree}
+use Rattle.term_model.specs.Conditions.{Hold}
+use Rattle.term_arena.specs.Trees.{trees_of}
 use Rattle.normal_form.specs.Norm.{norm}
 use Rattle.memory_map.specs.Cells.{start_map}
 use Rattle.rv_machine.specs.Class.{in_class}
 use Rattle.replay_law.specs.Crash.{AreProper}
-use Rattle.replay_law.specs.Forms.{Hold, with_conditions}
+use Rattle.replay_law.specs.Forms.{with_conditions}
 use Rattle.replay_law.specs.Terms.{terms_after}
 use Rattle.replay_law.specs.Follow.{conditions_of, shown_next}
 use Rattle.trace_conditions.specs.Conditions as whole
-use Rattle.path_condition.specs.Listed.{trees_of}
 use Rattle.path_condition.proofs.ListLemmas.{grown_trees, grown_belong}
 use Rattle.sym_replay.specs.States.{terms_of}
 use Rattle.sym_replay.proofs.StateLemmas.{grown_state, grown_terms, further}
@@ -21,7 +22,7 @@ pub loop-i-init : goal.loop-i-init
 loop-i-init c =
     let image = start_map c.args.image.now.segments in
     let arena = c.start-2.new.arena in
-    let program : Program = record { entry = c.args.image.now.entry; segments = c.args.image.now.segments } in
+    let program : Program = program_of c.args.image.now in
     let none : c.new-conditions.result ≡ [] = c.new-conditions.ensures.empty in
     let start = c.in_ok-state.ensures.terms image in
     let place : c.in_ok-state.state.place ≡ 0 = (λ i. (start i).place) in (
@@ -42,7 +43,7 @@ loop-i-preserved c =
     let grown = grown_terms c.loop-i.arena c.add_event.new.arena c.loop-i.state image c.in_ok-add_event.ensures.keeps c.loop-i.invariant.1 in
     let later = grown_trees c.add_event.new.arena c.follow_event.new.arena keeps c.add_event.new.conditions c.in_ok-add_event.ensures.listed in
     let run = c.args.transcript.now in
-    let program : Program = record { entry = c.args.image.now.entry; segments = c.args.image.now.segments } in
+    let program : Program = program_of c.args.image.now in
     let s = terms_of c.loop-i.arena image c.loop-i.state in
     let e = c.event_at-event.result in
     let item : slice_get run.events c.loop-i.i ≡ Some e = sym (ap (λ es. slice_get es c.loop-i.i) c.as_slice-events.ensures) ∙ c.event_at-event.ensures in
@@ -61,18 +62,18 @@ pub returns-clause-trees : goal.returns-clause-trees
 returns-clause-trees c =
     let image = start_map c.args.image.now.segments in
     let run = c.args.transcript.now in
-    let program : Program = record { entry = c.args.image.now.entry; segments = c.args.image.now.segments } in
+    let program : Program = program_of c.args.image.now in
     let same : length c.as_slice-events.result.now ≡ length run.events = ap length c.as_slice-events.ensures in
     let last : c.loop-i.i ≡ length run.events = omega (arith, same, c.loop-i-test.false, c.loop-i.auto.i-end) in
     at_end image run.n run.events run.end (whole.conditions_of program run) (trees_of c.loop-i.arena c.loop-i.conditions) (terms_of c.loop-i.arena image c.loop-i.state) c.loop-i.i last c.loop-i.invariant.4
 
 pub returns-clause-class : goal.returns-clause-class
 returns-clause-class c limit x y p k i =
-    let program : Program = record { entry = c.args.image.now.entry; segments = c.args.image.now.segments } in
-    subst (λ (ts : List Tree). Hold y ts ↔ IsTrue (in_class program limit c.args.transcript.now y)) (sym (returns-clause-trees c))
+    let program : Program = program_of c.args.image.now in
+    subst (λ (ts : List Tree). Hold ts y ↔ IsTrue (in_class program limit c.args.transcript.now y)) (sym (returns-clause-trees c))
     (c.conditions_hold_of_the_class.ensures.class program limit x y c.args.transcript.now p k i)
 
 pub returns-clause-proper : goal.returns-clause-proper
 returns-clause-proper c limit x p k =
-    let program : Program = record { entry = c.args.image.now.entry; segments = c.args.image.now.segments } in
+    let program : Program = program_of c.args.image.now in
     subst (AreProper c.args.transcript.now.n) (sym (returns-clause-trees c)) (c.conditions_are_proper.ensures.proper program limit x c.args.transcript.now p k)

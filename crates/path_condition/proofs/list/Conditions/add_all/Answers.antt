@@ -1,5 +1,5 @@
 use Rattle.std.proofs.Common.{◌≡◌, ℕ, List, sym, subst, length, arith}
-use Rattle.path_condition.specs.Listed.{trees_of}
+use Rattle.term_arena.specs.Trees.{trees_of}
 use Rattle.path_condition.specs.Places.{HasPlaces}
 use Rattle.path_condition.proofs.PlaceLemmas.{first_places}
 use Rattle.path_condition.proofs.ListLemmas.{take_all, with_conditions-none, still_first, next_added}

@@ -1,6 +1,7 @@
 use Rattle.std.proofs.Common.{◌≡◌, take}
+use Rattle.term_arena.specs.Trees.{trees_of}
 use Rattle.replay_law.specs.Forms.{with_conditions}
-use Rattle.path_condition.specs.Listed.{trees_of, Belong}
+use Rattle.path_condition.specs.Listed.{Belong}
 use Rattle.path_condition.proofs.list.Conditions.add_all.Given as goal
 
 -- the terms so far are added, after those that were there

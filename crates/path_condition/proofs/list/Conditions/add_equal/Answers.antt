@@ -1,9 +1,8 @@
 use Rattle.std.proofs.Common.{◌≡◌}
 use Rattle.term_model.specs.Value.{val}
-use Rattle.term_arena.specs.Trees.{tree_of}
+use Rattle.term_arena.specs.Trees.{tree_of, trees_of}
 use Rattle.normal_form.specs.Norm.{norm}
 use Rattle.replay_law.specs.Forms.{equal}
-use Rattle.path_condition.specs.Listed.{trees_of}
 use Rattle.path_condition.proofs.ListLemmas.{added, then_ok, meant}
 use Rattle.path_condition.proofs.list.Conditions.add_equal.Goals as goal
 

@@ -1,10 +1,9 @@
 use Rattle.std.proofs.Common.{◌≡◌, ◌^◌, ◌<◌, ◌∙◌, arith}
 use Rattle.term_model.specs.Value.{val}
-use Rattle.term_arena.specs.Trees.{tree_of}
+use Rattle.term_arena.specs.Trees.{tree_of, trees_of}
 use Rattle.normal_form.specs.Norm.{norm}
 use Rattle.replay_law.specs.Forms.{target}
 use Rattle.rv_machine.specs.Effects.{even}
-use Rattle.path_condition.specs.Listed.{trees_of}
 use Rattle.path_condition.proofs.ListLemmas.{added, then_ok, meant}
 use Rattle.path_condition.proofs.list.Conditions.add_target.Goals as goal
 
