@@ -1,8 +1,6 @@
 -- The conditions of a trace as terms of an arena, divided into groups.
 use Rattle.std.specs.Prelude.{◌≡◌, ℕ, Bool, List, length, nat_lt, All}
 use Rattle.std.specs.List.{list_any}
-use Rattle.elf32.specs.declared.image.Image.{Image}
-use Rattle.elf32.specs.Loads.{Program}
 use Rattle.term_model.specs.Tree.{Tree}
 use Rattle.term_model.specs.Places.{ReadsBelow}
 use Rattle.term_arena.specs.Trees.{tree_of, trees_of}
