@@ -38,7 +38,7 @@ module _ (trees : List Tree) (terms : List ℕ) (groups : List Group) (are : Are
       subst P same (w.2 i s)
 
   -- the conditions of a group
-  conditions_are : (g : Group) → Contains groups g → g.conditions ≡ filter (λ t. list_any (reads (tree_of trees t)) g.places) terms
+  pub conditions_are : (g : Group) → Contains groups g → g.conditions ≡ filter (λ t. list_any (reads (tree_of trees t)) g.places) terms
   conditions_are g cg = All-contains (λ (g : Group). g.conditions ≡ filter (λ t. list_any (reads (tree_of trees t)) g.places) terms) groups g are.conditions cg
 
   -- a condition that reads a place of a group belongs to it

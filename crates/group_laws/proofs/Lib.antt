@@ -1,6 +1,10 @@
 pub mod Lists
+pub mod Firsts
 pub mod Groups
-pub mod Links
+pub mod Division
+pub mod Unique
+pub mod Reading
 pub mod Parts
 pub mod Sets
 pub mod Stays
+pub mod Choices

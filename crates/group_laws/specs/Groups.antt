@@ -1,5 +1,5 @@
 -- The groups of places that conditions tie together, and the values that each place of an input may take, from the
--- conditions alone. The places are those below n.
+-- conditions alone. The places are those below n, and a group is told by the first of its places.
 use Rattle.std.specs.Prelude.{ℕ, ◌==◌, ◌&&◌, Bool, List, [], ◌∷◌, nat_eq, nat_lt, length, map, filter, find, unwrap_or, if◌then◌else◌}
 use Rattle.std.specs.List.{list_any, range_with_len}
 use Rattle.term_model.specs.Tree.{Tree}
@@ -7,7 +7,7 @@ use Rattle.term_model.specs.Places.{reads}
 use Rattle.input_laws.specs.Sets.{freed}
 use Rattle.input_laws.specs.Narrow.{freed_beside}
 
--- the condition reads a place of the group that has place i, where groups are told by their first places
+-- the condition reads a place of the group that has place i
 abbrev pub meets : (ℕ → ℕ) → ℕ → Tree → ℕ → Bool
 meets first n t i = list_any (λ j. reads t j && nat_eq (first j) (first i)) (range_with_len 0 n)
 
@@ -39,7 +39,7 @@ has_wide_group conditions n = list_any (λ places. nat_lt 2 (length places)) (gr
 -- The values of place i of y: with the others as they are, where it is the first of its group, and else beside every value
 -- of the first.
 abbrev pub values_beside : (List ℕ → Bool) → List ℕ → ℕ → ℕ → ℕ → Bool
-values_beside member y first i v = if first == i then freed member y i v else freed_beside member (freed member y first) y first i v
+values_beside member y first i = if first == i then freed member y i else freed_beside member (freed member y first) y first i
 
 unfoldable pub values_at : (List ℕ → Bool) → List Tree → List ℕ → ℕ → ℕ → Bool
 values_at member conditions y i = values_beside member y (first_of conditions (length y) i) i

@@ -16,7 +16,7 @@ use Rattle.report_maker.specs.Mask.{mask}
 use Rattle.report_maker.specs.Made.{first_input, sets_of, is_wide}
 use Rattle.report_maker.proofs.ClassLemmas.{first_of_length, member_has_trace}
 use Rattle.report_maker.proofs.MadeLemmas.{ClassLaw, class_by_conditions}
-use Rattle.report_maker.proofs.ChoiceLemmas.{choice_passes, class_is_bounded_by}
+use Rattle.group_laws.proofs.Choices.{choice_passes, class_is_bounded_by}
 
 -- the law that conditions are proper
 abbrev pub ProperLaw : Type 0

@@ -1,6 +1,10 @@
 -- The report that is made of the groups is the one that is stated.
-use Rattle.std.proofs.Common.{◌≡◌, ◌∙◌, ◌<◌, ◌≤◌, ◌^◌, ◌%◌, inl, inr, ℕ, Bool, true, false, cond, List, [], ◌∷◌, length, map, Some, Result, Ok, Err, sym, ap, subst, arith}
+use Rattle.std.proofs.Common.{◌≡◌, ◌∙◌, ◌+◌, ◌<◌, ◌≤◌, ◌^◌, ◌%◌, inl, inr, ℕ, Bool, true, false, not, cond, List, [], ◌∷◌, length, map, Some, Result, Ok, Err, refl, sym, ap, subst, arith}
 use Rattle.std.specs.Prelude.{◌↔◌, filter, All, Contains, slice_index, nat_lt, unwrap_or, IsTrue, IfOk}
+use Rattle.std.specs.List.{range_with_len}
+use Rattle.std.proofs.lemmas.List.{length-map}
+use Rattle.std.proofs.lemmas.List.Filters.{length-filter_both}
+use Rattle.std.proofs.lemmas.List.FromFn.{length-range_with_len}
 use Rattle.std.proofs.lemmas.List.Elements.{All-nil, All-cons, All-head, All-tail, All-map, All-contains, All-take, All-drop}
 use Rattle.std.proofs.lemmas.Bool.{cases_lt, ltb-true, lt-ltb}
 use Rattle.elf32.specs.declared.image.Image.{Image}
@@ -29,11 +33,11 @@ use Rattle.byte_sets.specs.ByteSet.{has}
 use Rattle.group_model.specs.declared.Group.{Group}
 use Rattle.group_model.specs.Conditions.{IsCondition}
 use Rattle.group_model.specs.Division.{IsGrouped, AreGroups}
-use Rattle.group_laws.specs.Links.{sets_by_links, has_wide_group}
+use Rattle.group_laws.specs.Groups.{begins_group, group_with, groups_of, has_wide_group, sets_by_groups}
 use Rattle.group_laws.specs.Parts.{IsByConditions, HasFirst, HasSets}
 use Rattle.group_laws.proofs.Lists.{all_from, all_at_map, any_found, any_here}
 use Rattle.group_laws.proofs.Groups.{group_is_filled}
-use Rattle.group_laws.proofs.Links.{narrow_groups, wide_group}
+use Rattle.group_laws.proofs.Division.{groups_are, wide_are}
 use Rattle.group_laws.proofs.Parts.{places_below, is_group, group_holds, first_from_groups}
 use Rattle.group_laws.proofs.Sets.{sets_are_filled}
 use Rattle.group_laws.proofs.Stays.{gathered_sets}
@@ -43,7 +47,7 @@ use Rattle.report_maker.specs.Divided.{AreDivided, some_is_wide}
 use Rattle.report_maker.specs.Filled.{IsNarrow, IsDone, IsLeft, IsFilled}
 use Rattle.report_maker.specs.Made.{first_input, sets_of, report_of}
 use Rattle.report_maker.proofs.MaskLemmas.{mask_is_input}
-use Rattle.report_maker.proofs.ReadingLemmas.{reading}
+use Rattle.group_laws.proofs.Reading.{reading}
 use Rattle.report_maker.proofs.ClassLemmas.{traced_is_member}
 
 -- ---- files
@@ -106,7 +110,7 @@ are_below trees n (t ∷ ts) p = All-cons (λ t. ReadsBelow n (tree_of trees t))
 -- ---- groups
 
 module _ (trees conditions : List Tree) (n : ℕ) (groups : List Group) (divided : AreDivided trees conditions n groups) where
-  -- where no group is wide, no place is linked with two others
+  -- where no group is wide, each has at most two places
   pub none_is_wide : some_is_wide groups ≡ false → All (λ g. length g.places ≤ 2) groups
   none_is_wide none = all_from (λ g. length g.places ≤ 2) groups (λ g c.
       elim (cases_lt 2 (length g.places)) [
@@ -114,13 +118,26 @@ module _ (trees conditions : List Tree) (n : ℕ) (groups : List Group) (divided
         | inr narrow ↦ narrow
       ])
 
-  pub is_not_wide : some_is_wide groups ≡ false → has_wide_group conditions n ≡ false
-  is_not_wide none = subst (λ ts. has_wide_group ts n ≡ false) divided.trees_are (narrow_groups trees divided.terms groups divided.are n (none_is_wide none))
+  -- the groups by conditions are these
+  groups_are_these : groups_of conditions n ≡ map (λ g. g.places) groups
+  groups_are_these = subst (λ ts. groups_of ts n ≡ map (λ g. g.places) groups) divided.trees_are (groups_are trees divided.terms groups divided.are n divided.below)
 
-  pub is_wide_too : some_is_wide groups ≡ true → has_wide_group conditions n ≡ true
-  is_wide_too some =
-      let found = any_found (λ g. nat_lt 2 (length g.places)) groups some in
-      subst (λ ts. has_wide_group ts n ≡ true) divided.trees_are (wide_group trees divided.terms groups divided.are n found.item divided.below found.inside (ltb-true 2 (length found.item.places) found.passes))
+  pub wide_is : has_wide_group conditions n ≡ some_is_wide groups
+  wide_is = subst (λ ts. has_wide_group ts n ≡ some_is_wide groups) divided.trees_are (wide_are trees divided.terms groups divided.are n divided.below)
+
+  -- so they are as many, and no more than places
+  pub number_is : length groups ≡ length (groups_of conditions n)
+  number_is = sym (ap length groups_are_these ∙ length-map groups (λ g. g.places))
+
+  pub number_is_small : length groups ≤ n
+  unfolding groups_of
+  number_is_small =
+      let kept : ℕ = length (filter (begins_group conditions n) (range_with_len 0 n)) in
+      let all : kept + length (filter (λ i. not (begins_group conditions n i)) (range_with_len 0 n)) ≡ length (range_with_len 0 n) = length-filter_both (begins_group conditions n) (λ i. not (begins_group conditions n i)) (λ i. refl) (range_with_len 0 n) in
+      let long : length (range_with_len 0 n) ≡ n = length-range_with_len 0 n in
+      let same : length (groups_of conditions n) ≡ kept = length-map (filter (begins_group conditions n) (range_with_len 0 n)) (group_with conditions n) in
+      let count : length groups ≡ length (groups_of conditions n) = number_is in
+      omega arith
 
   -- each group is one that can be filled, where some input meets the conditions
   pub groups_are_narrow : some_is_wide groups ≡ false → n < 2 ^ 32 → (x : List ℕ) → IsInput n x → Hold conditions x → All (IsNarrow trees n) groups
@@ -166,24 +183,24 @@ module _ (trees conditions : List Tree) (n : ℕ) (groups : List Group) (divided
       two = λ is. ((is_done g c).low is input (within g c 1 (omega arith)) (is_done g c).has, (is_done g c).high is input (within g c 1 (omega arith)) (is_done g c).has);
     }
 
-    -- the sets are those by links
-    pub sets_are : some_is_wide groups ≡ false → sets ≡ sets_by_links member conditions input
+    -- the sets are those that the conditions give
+    pub sets_are : some_is_wide groups ≡ false → sets ≡ sets_by_groups member conditions input
     sets_are none =
-        gathered_sets trees divided.terms groups divided.are n input member exact_of_terms is_input input_is_first.is_member sets (none_is_wide none) (filled.sets_long ∙ masked.long)
+        gathered_sets trees divided.terms groups divided.are n input member exact_of_terms is_input input_is_first.is_member divided.below sets (none_is_wide none) (filled.sets_long ∙ masked.long)
         (λ i l free. filled.sets_left i (rw masked.long l) (free_is_left i free)) (all_from (HasSets trees input sets) groups has_sets)
-        ∙ ap (λ ts. sets_by_links member ts input) divided.trees_are
+        ∙ ap (λ ts. sets_by_groups member ts input) divided.trees_are
 
 -- ---- the report
 
 -- the report that is made is the one that is stated
 pub made : (p : List ℕ) (seed limit : ℕ) (t : Transcript) (trap : Trap) (digest input : List ℕ) (events : List Event) (sets : List ByteSet)
     → digest ≡ sha256 p → events ≡ t.events → first (mask seed t.n) (in_class (image_of p) limit t) ≡ Some input
-    → map has sets ≡ sets_by_links (in_class (image_of p) limit t) (conditions_of (image_of p) t) input
+    → map has sets ≡ sets_by_groups (in_class (image_of p) limit t) (conditions_of (image_of p) t) input
     → record { length = length p; digest = digest; trap = trap; steps = length events; seed = seed; input = input; sets = map has sets } ≡ report_of p seed limit t trap
 unfolding report_of
 made p seed limit t trap digest input events sets is_digest is_events found are =
     let is_input : first_input (image_of p) seed limit t ≡ input = ap (λ o. unwrap_or o []) found in
-    let are_sets : map has sets ≡ sets_of (image_of p) seed limit t = are ∙ ap (sets_by_links (in_class (image_of p) limit t) (conditions_of (image_of p) t)) (sym is_input) in
+    let are_sets : map has sets ≡ sets_of (image_of p) seed limit t = are ∙ ap (sets_by_groups (in_class (image_of p) limit t) (conditions_of (image_of p) t)) (sym is_input) in
     λ i. record {
       length = length p;
       digest = is_digest i;
@@ -195,7 +212,7 @@ made p seed limit t trap digest input events sets is_digest is_events found are 
     }
 
 -- no set is empty
-pub filled_sets : (conditions : List Tree) (n : ℕ) (order : List ℕ) (member : List ℕ → Bool) (input : List ℕ) (sets : List ByteSet) → IsFirst n order member input → map has sets ≡ sets_by_links member conditions input
+pub filled_sets : (conditions : List Tree) (n : ℕ) (order : List ℕ) (member : List ℕ → Bool) (input : List ℕ) (sets : List ByteSet) → IsFirst n order member input → map has sets ≡ sets_by_groups member conditions input
     → All (λ set. 0 < size (has set)) sets
 filled_sets conditions n order member input sets is are =
     let all : All (λ set. 0 < size set) (map has sets) = subst (All (λ set. 0 < size set)) (sym are) (sets_are_filled conditions n input member is.is_input is.is_member) in
@@ -251,8 +268,8 @@ module _ (law : ClassLaw) (p : List ℕ) (is : IsProgram (image_of p)) (seed : �
   exact : IsByConditions t.n (in_class (image_of p) limit t) (conditions_of (image_of p) t)
   exact = class_by_conditions law (image_of p) limit x t is traced
 
-  are_by_links : map has sets ≡ sets_by_links (in_class (image_of p) limit t) (conditions_of (image_of p) t) input
-  are_by_links =
+  are_by_groups : map has sets ≡ sets_by_groups (in_class (image_of p) limit t) (conditions_of (image_of p) t) input
+  are_by_groups =
       sets_are trees (conditions_of (image_of p) t) t.n groups divided (mask seed t.n) input (map has sets) (mask_is_input seed t.n) is_input filled_in_order
       (in_class (image_of p) limit t) exact none
 
@@ -263,7 +280,7 @@ module _ (law : ClassLaw) (p : List ℕ) (is : IsProgram (image_of p)) (seed : �
       made p seed limit t trap digest bytes events all_sets is_digest are_events
       (input_is_found trees (conditions_of (image_of p) t) t.n groups divided (mask seed t.n) input (map has sets) (mask_is_input seed t.n) is_input filled_in_order
       (in_class (image_of p) limit t) exact ∙ ap Some (sym are_bytes))
-      (ap (map has) are_sets ∙ (are_by_links ∙ ap (sets_by_links (in_class (image_of p) limit t) (conditions_of (image_of p) t)) (sym are_bytes)))
+      (ap (map has) are_sets ∙ (are_by_groups ∙ ap (sets_by_groups (in_class (image_of p) limit t) (conditions_of (image_of p) t)) (sym are_bytes)))
 
   -- no set is empty
   pub sets_are_not_empty : (all_sets : List ByteSet) → all_sets ≡ sets → All (λ set. 0 < size (has set)) all_sets
@@ -271,7 +288,7 @@ module _ (law : ClassLaw) (p : List ℕ) (is : IsProgram (image_of p)) (seed : �
       subst (All (λ set. 0 < size (has set))) (sym are_sets)
       (filled_sets (conditions_of (image_of p) t) t.n (mask seed t.n) (in_class (image_of p) limit t) input sets
       (input_is_first trees (conditions_of (image_of p) t) t.n groups divided (mask seed t.n) input (map has sets) (mask_is_input seed t.n) is_input filled_in_order (in_class (image_of p) limit t) exact)
-      are_by_links)
+      are_by_groups)
 
 -- the program of a file with an image
 pub image_gives_program : (image : Image) (p : List ℕ) → All (λ byte. byte < 256) p → image.entry ≡ (image_of p).entry → IsProgram (image_of p)

@@ -85,13 +85,14 @@ pub fn make_report(
     ensures filled { IfOk result (λ made. All (λ set. 0 < size (has set)) made.report.sets) }
 {
     let mut arena = Arena::new(alloc)?;
-    let groups = divide(alloc, image, transcript, &mut arena)?;
-    if has_wide_group(groups.as_slice()) {
+    let divided = divide(alloc, image, transcript, &mut arena)?;
+    let groups = divided.as_slice();
+    if has_wide_group(groups) {
         return Err(MakeError::Wide);
     }
     conditions_hold_of_the_class();
     let mask = order_mask(alloc, seed, transcript.n)?;
-    let (input, sets) = fill_all(alloc, &arena, groups.as_slice(), mask.as_slice())?;
+    let (input, sets) = fill_all(alloc, &arena, groups, mask.as_slice())?;
     let report = Report {
         length: program.len() as u32,
         digest: Sha256::digest(program),
@@ -103,6 +104,6 @@ pub fn make_report(
     };
     Ok(Made {
         report,
-        groups: groups.as_slice().len() as u32,
+        groups: groups.len() as u32,
     })
 }

@@ -1,6 +1,6 @@
--- Where no place is linked with two others, every choice from a member's sets is a member.
+-- Where no group has more than two places, every choice from a member's sets is a member.
 use Rattle.std.proofs.Common.{◌≡◌, ◌≢◌, ◌∙◌, ℕ, zero, suc, ◌*◌, ◌<◌, ◌≤◌, ◌^◌, inl, inr, Bool, true, false, not, ◌&&◌, List, [], ◌∷◌, length, get_or, refl, sym, ap, subst, arith}
-use Rattle.std.specs.Prelude.{Option, None, Some, All, Contains, filter, find, nat_eq, nat_lt, slice_index, slice_set, IsTrue}
+use Rattle.std.specs.Prelude.{All, Contains, filter, nat_eq, nat_lt, slice_index, slice_set, IsTrue}
 use Rattle.std.specs.List.{list_any, list_all, range_with_len}
 use Rattle.std.proofs.lemmas.List.{length-set, get_or-set_same, get_or-set_other, set-get_or, get_or_past}
 use Rattle.std.proofs.lemmas.List.Elements.{All-contains}
@@ -15,12 +15,12 @@ use Rattle.input_laws.specs.Sets.{IsChoice, set_at, freed, revealed}
 use Rattle.input_laws.specs.Narrow.{freed_beside}
 use Rattle.input_laws.proofs.Bound.{bound}
 use Rattle.input_laws.proofs.ByteByByte.{choice_is_input, choice_at, input_with}
-use Rattle.group_laws.specs.Links.{linked, joins, has_wide_group, lower_of, values_beside, values_at, sets_by_links}
+use Rattle.group_laws.specs.Groups.{first_of, group_with, begins_group, groups_of, has_wide_group, values_at, sets_by_groups}
 use Rattle.group_laws.specs.Parts.{IsByConditions}
-use Rattle.group_laws.proofs.Lists.{any_here, any_found, all_from, contains_first, contains_later, item_is_kept}
-use Rattle.group_laws.proofs.Links.{in_range, below_end}
-use Rattle.group_laws.proofs.Sets.{length_sets, set_is, sets_are_filled}
-use Rattle.report_maker.proofs.ReadingLemmas.{reading, reads_none}
+use Rattle.group_laws.proofs.Lists.{any_here, any_found, all_from, apart_at, contains_map, item_is_kept}
+use Rattle.group_laws.proofs.Firsts.{itself, in_range, first_is_low, first_is_first, first_is_read, read_together}
+use Rattle.group_laws.proofs.Reading.{reading, reads_none}
+use Rattle.group_laws.proofs.Sets.{length_sets, set_is, sets_are_filled, values_of_first, values_of_other, own_freed}
 
 -- ---- lists and tests
 
@@ -42,19 +42,6 @@ are_different x y h = grind (arith, nat_tests)
 not_equal : (x y : ℕ) → not (nat_eq x y) ≡ true → x ≢ y
 not_equal x y t e = grind (arith, nat_tests)
 
--- where one item alone passes, it is found
-finds : (p : ℕ → Bool) (xs : List ℕ) (x : ℕ) → Contains xs x → p x ≡ true → ((z : ℕ) → Contains xs z → p z ≡ true → z ≡ x) → find p xs ≡ Some x
-finds p [] x (k, l, e) t only = absurd (omega arith)
-finds p (y ∷ ys) x (zero, l, e) t only = let passes : p y ≡ true = ap p e ∙ t in rw passes (ap Some e)
-finds p (y ∷ ys) x (suc k, l, e) t only = elim (cases_Bool (p y)) [
-  | inl passes ↦ rw passes (ap Some (only y (contains_first y ys) passes))
-  | inr fails ↦ rw fails (finds p ys x (k, omega arith, e) t (λ z c. only z (contains_later y ys z c)))
-]
-
-finds_none : (p : ℕ → Bool) (xs : List ℕ) → ((x : ℕ) → Contains xs x → p x ≡ false) → find p xs ≡ None
-finds_none p [] h = refl
-finds_none p (x ∷ xs) h = let fails : p x ≡ false = h x (contains_first x xs) in rw fails (finds_none p xs (λ z c. h z (contains_later x xs z c)))
-
 -- ---- values
 
 -- a value that passes beside every value of a set passes beside each
@@ -65,78 +52,79 @@ beside_each test set y i j v w t b s =
     (item_is_kept set bytes v (is_byte v b) s)
 
 -- a value of a place passes beside the member's other bytes
-value_passes : (member : List ℕ → Bool) (n : ℕ) (y : List ℕ) (i v : ℕ) (lower : Option ℕ) → IsInput n y → IsTrue (member y) → values_beside member y i lower v ≡ true → member (slice_set y i v) ≡ true
-value_passes member n y i v None a m t = (and_parts (nat_lt v 256) (member (slice_set y i v)) t).1
-value_passes member n y i v (Some j) a m t =
-    let own : slice_set y j (slice_index y j) ≡ y = set-get_or y j 0 in
-    let byte : slice_index y j < 256 = byte_at y j a.in_range in
-    let is_free : freed member y j (slice_index y j) ≡ true = and_from (nat_lt (slice_index y j) 256) (member (slice_set y j (slice_index y j))) (lt-ltb (slice_index y j) 256 byte) (ap member own ∙ m) in
-    ap (λ x. member (slice_set x i v)) (sym own) ∙ beside_each member (freed member y j) y j i (slice_index y j) v t byte is_free
-  where
-    byte_at : (xs : List ℕ) (k : ℕ) → All (λ b. b < 256) xs → slice_index xs k < 256
-    byte_at xs k h = elim (cases_order k (length xs)) [
-      | inl same ↦ (let e : get_or xs k 0 ≡ 0 = get_or_past xs k 0 (omega arith) in omega arith)
-      | inr (inl less) ↦ h k 0 less
-      | inr (inr more) ↦ (let e : get_or xs k 0 ≡ 0 = get_or_past xs k 0 (omega arith) in omega arith)
-    ]
+value_passes : (member : List ℕ → Bool) (conditions : List Tree) (n : ℕ) (y : List ℕ) (i v : ℕ) → IsInput n y → IsTrue (member y) → i < n → values_at member conditions y i v ≡ true → member (slice_set y i v) ≡ true
+value_passes member conditions n y i v a m l t = elim (cases_eq (first_of conditions (length y) i) i) [
+  | inl same ↦ (and_parts (nat_lt v 256) (member (slice_set y i v)) (ap (λ s. s v) (sym (values_of_first member conditions y i same)) ∙ t)).1
+  | inr differ ↦ (let j : ℕ = first_of conditions (length y) i in
+      let low : j ≤ i = first_is_low conditions (length y) i (rw a.long l) in
+      let long : length y ≡ n = a.long in
+      let own : slice_set y j (slice_index y j) ≡ y = set-get_or y j 0 in
+      let byte : slice_index y j < 256 = a.in_range j 0 (omega arith) in
+      let is_free : freed member y j (slice_index y j) ≡ true = own_freed member n y j a m (omega arith) in
+      ap (λ x. member (slice_set x i v)) (sym own) ∙ beside_each member (freed member y j) y j i (slice_index y j) v (ap (λ s. s v) (sym (values_of_other member conditions y i j refl differ)) ∙ t) byte is_free)
+]
 
--- ---- links
+-- ---- groups of two
 
--- a condition that reads two places links them
-links : (cs : List Tree) (t : Tree) (i j : ℕ) → Contains cs t → reads t i ≡ true → reads t j ≡ true → linked cs i j ≡ true
-links cs t i j c r s = any_here (λ u. reads u i && reads u j) cs t c (and_from (reads t i) (reads t j) r s)
+-- a list with three different items has more than two
+three_items : (xs : List ℕ) (i j k : ℕ) → i ≢ j → i ≢ k → j ≢ k → Contains xs i → Contains xs j → Contains xs k → 2 < length xs
+three_items xs i j k a b d ci cj ck =
+    let p : ci.0 ≢ cj.0 = apart_at xs i j a ci cj in
+    let q : ci.0 ≢ ck.0 = apart_at xs i k b ci ck in
+    let r : cj.0 ≢ ck.0 = apart_at xs j k d cj ck in
+    let u : ci.0 < length xs = ci.1 in
+    let v : cj.0 < length xs = cj.1 in
+    let w : ck.0 < length xs = ck.1 in
+    omega arith
 
 module _ (cs : List Tree) (n : ℕ) (none : has_wide_group cs n ≡ false) where
-  -- no place is linked with two others, in order
-  not_joined : (i j k : ℕ) → i < n → j < n → k < n → i ≢ j → i ≢ k → j < k → linked cs i j ≡ true → linked cs i k ≡ true → ⊥
-  unfolding has_wide_group
-  not_joined i j k a b c p q less r s =
-      let both : joins cs i j k ≡ true = and_from (not (nat_eq i j) && (not (nat_eq i k) && nat_lt j k)) (linked cs i j && linked cs i k)
-      (and_from (not (nat_eq i j)) (not (nat_eq i k) && nat_lt j k) (are_different i j p) (and_from (not (nat_eq i k)) (nat_lt j k) (are_different i k q) (lt-ltb j k less)))
-      (and_from (linked cs i j) (linked cs i k) r s) in
-      let found : has_wide_group cs n ≡ true = any_here (λ i. list_any (λ j. list_any (joins cs i j) (range_with_len 0 n)) (range_with_len 0 n)) (range_with_len 0 n) i (in_range n i a)
-      (any_here (λ j. list_any (joins cs i j) (range_with_len 0 n)) (range_with_len 0 n) j (in_range n j b) (any_here (joins cs i j) (range_with_len 0 n) k (in_range n k c) both)) in
-      both_ways (has_wide_group cs n) none found
+  -- a group with a place that is read has at most two places
+  few_beside : (i : ℕ) → i < n → list_any (λ t. reads t i) cs ≡ true → 2 < length (group_with cs n (first_of cs n i)) → ⊥
+  unfolding groups_of
+  few_beside i l read many =
+      let first : ℕ = first_of cs n i in
+      let low : first ≤ i = first_is_low cs n i l in
+      let begins : begins_group cs n first ≡ true = and_from (list_any (λ t. reads t first) cs) (nat_eq (first_of cs n first) first) (first_is_read cs n i l read) (ap (λ k. nat_eq k first) (first_is_first cs n i l) ∙ itself first) in
+      let there : Contains (groups_of cs n) (group_with cs n first) = contains_map (group_with cs n) (filter (begins_group cs n) (range_with_len 0 n)) first (item_is_kept (begins_group cs n) (range_with_len 0 n) first (in_range n first (omega arith)) begins) in
+      both_ways (has_wide_group cs n) none (any_here (λ places. nat_lt 2 (length places)) (groups_of cs n) (group_with cs n first) there (lt-ltb 2 (length (group_with cs n first)) many))
 
-  -- so two places with which one is linked are the same
-  one_link : (i j k : ℕ) → i < n → j < n → k < n → i ≢ j → i ≢ k → linked cs i j ≡ true → linked cs i k ≡ true → j ≡ k
-  one_link i j k a b c p q r s = elim (cases_order j k) [
+  -- so two other places of the group of one are the same
+  one_other : (i j k : ℕ) → i < n → j < n → k < n → list_any (λ t. reads t i) cs ≡ true → first_of cs n j ≡ first_of cs n i → first_of cs n k ≡ first_of cs n i → i ≢ j → i ≢ k → j ≡ k
+  one_other i j k a b c read e f p q = elim (cases_eq j k) [
     | inl same ↦ same
-    | inr (inl less) ↦ absurd (not_joined i j k a b c p q less r s)
-    | inr (inr more) ↦ absurd (not_joined i k j a c b q p more s r)
+    | inr differ ↦ absurd (few_beside i a read (three_items (group_with cs n (first_of cs n i)) i j k p q differ (of_group i a refl) (of_group j b e) (of_group k c f)))
   ]
+    where
+      of_group : (x : ℕ) → x < n → first_of cs n x ≡ first_of cs n i → Contains (group_with cs n (first_of cs n i)) x
+      of_group x l same = item_is_kept (λ y. nat_eq (first_of cs n y) (first_of cs n (first_of cs n i))) (range_with_len 0 n) x (in_range n x l)
+          (ap (λ y. nat_eq y (first_of cs n (first_of cs n i))) same ∙ (ap (nat_eq (first_of cs n i)) (first_is_first cs n i a) ∙ itself (first_of cs n i)))
 
-  module _ (lo hi : ℕ) (less : lo < hi) (inside : hi < n) (up : linked cs lo hi ≡ true) (down : linked cs hi lo ≡ true) where
-    -- the lower of two linked places is linked with none below it
-    low_has_none : lower_of cs lo ≡ None
-    low_has_none = finds_none (linked cs lo) (range_with_len 0 lo) (λ j c. false_from_ne_true (linked cs lo j) (λ t.
-        let below : j < lo = below_end lo j c in
-        let same : j ≡ hi = one_link lo j hi (omega arith) (omega arith) inside (λ e. omega arith) (λ e. omega arith) t up in
-        omega arith))
-
-    -- the higher is linked with the lower alone
-    high_has_low : lower_of cs hi ≡ Some lo
-    high_has_low = finds (linked cs hi) (range_with_len 0 hi) lo (in_range hi lo less) down (λ j c t.
-        let below : j < hi = below_end hi j c in
-        one_link hi j lo inside (omega arith) (omega arith) (λ e. omega arith) (λ e. omega arith) t down)
+  -- of two places of a group the lower is the first
+  low_is_first : (lo hi : ℕ) → lo < hi → hi < n → list_any (λ t. reads t lo) cs ≡ true → first_of cs n hi ≡ first_of cs n lo → first_of cs n lo ≡ lo
+  low_is_first lo hi less inside read same = elim (cases_eq (first_of cs n lo) lo) [
+    | inl e ↦ e
+    | inr differ ↦ (let low : first_of cs n lo ≤ lo = first_is_low cs n lo (omega arith) in
+        let other : first_of cs n lo ≡ hi = one_other lo (first_of cs n lo) hi (omega arith) (omega arith) inside read (first_is_first cs n lo (omega arith)) same (λ e. differ (sym e)) (λ e. omega arith) in
+        absurd (omega arith))
+  ]
 
 -- ---- choices
 
 module _ (cs : List Tree) (n : ℕ) (y : List ℕ) (member : List ℕ → Bool) (below : All (ReadsBelow n) cs) (none : has_wide_group cs n ≡ false) (by : IsByConditions n member cs) (a : IsInput n y) (m : IsTrue (member y)) where
-  module _ (z : List ℕ) (choice : IsChoice (sets_by_links member cs y) z) where
+  module _ (z : List ℕ) (choice : IsChoice (sets_by_groups member cs y) z) where
     is_input : IsInput n z
-    is_input = subst (λ k. IsInput k z) (length_sets member cs y ∙ a.long) (choice_is_input (sets_by_links member cs y) z choice)
+    is_input = subst (λ k. IsInput k z) (length_sets member cs y ∙ a.long) (choice_is_input (sets_by_groups member cs y) z choice)
 
     -- each byte is among the values of its place
     is_value : (i : ℕ) → i < n → values_at member cs y i (slice_index z i) ≡ true
     is_value i l =
         let here : i < length y = rw a.long l in
-        let t : (slice_index z i < 256) × IsTrue (set_at (sets_by_links member cs y) i (slice_index z i)) = choice_at (sets_by_links member cs y) z i choice (rw (length_sets member cs y) here) in
+        let t : (slice_index z i < 256) × IsTrue (set_at (sets_by_groups member cs y) i (slice_index z i)) = choice_at (sets_by_groups member cs y) z i choice (rw (length_sets member cs y) here) in
         ap (λ s. s (slice_index z i)) (sym (set_is member cs y i (λ _. false) here)) ∙ t.1
 
-    is_value_beside : (i : ℕ) (lower : Option ℕ) → lower_of cs i ≡ lower → i < n → values_beside member y i lower (slice_index z i) ≡ true
-    unfolding values_at
-    is_value_beside i lower e l = ap (λ o. values_beside member y i o (slice_index z i)) (sym e) ∙ is_value i l
+    -- by the length of the choice
+    first_here : (i first : ℕ) → first_of cs n i ≡ first → first_of cs (length y) i ≡ first
+    first_here i first e = ap (λ k. first_of cs k i) a.long ∙ e
 
     -- a condition holds of what is the same as a member where it reads
     holds_alike : (t : Tree) (w : List ℕ) → Contains cs t → IsInput n w → member w ≡ true → AreAlikeFor t z w → val t z ≡ 1
@@ -153,7 +141,7 @@ module _ (cs : List Tree) (n : ℕ) (y : List ℕ) (member : List ℕ → Bool) 
     one_holds t i c l only =
         let within : i < length y = rw a.long l in
         holds_alike t (slice_set y i (slice_index z i)) c (input_with n y i (slice_index z i) a (byte_of i l))
-        (value_passes member n y i (slice_index z i) (lower_of cs i) a m (is_value_beside i (lower_of cs i) refl l))
+        (value_passes member cs n y i (slice_index z i) a m l (is_value i l))
         (λ k r. rw (only k r) (sym (get_or-set_same y i (slice_index z i) 0 within)))
 
     -- a condition that reads two places
@@ -161,12 +149,13 @@ module _ (cs : List Tree) (n : ℕ) (y : List ℕ) (member : List ℕ → Bool) 
     two_hold t lo hi c less r s =
         let inside : hi < n = reads_within t c hi s in
         let inside_low : lo < n = omega arith in
-        let up : linked cs lo hi ≡ true = links cs t lo hi c r s in
-        let down : linked cs hi lo ≡ true = links cs t hi lo c s r in
+        let read : list_any (λ u. reads u lo) cs ≡ true = any_here (λ u. reads u lo) cs t c r in
+        let same : first_of cs n hi ≡ first_of cs n lo = read_together cs n t hi lo c s r inside inside_low in
+        let first_lo : first_of cs n lo ≡ lo = low_is_first cs n none lo hi less inside read same in
         let v : ℕ = slice_index z lo in
         let w : ℕ = slice_index z hi in
-        let free : freed member y lo v ≡ true = is_value_beside lo None (low_has_none cs n none lo hi less inside up down) inside_low in
-        let beside : freed_beside member (freed member y lo) y lo hi w ≡ true = is_value_beside hi (Some lo) (high_has_low cs n none lo hi less inside up down) inside in
+        let free : freed member y lo v ≡ true = ap (λ set. set v) (sym (values_of_first member cs y lo (first_here lo lo first_lo))) ∙ is_value lo inside_low in
+        let beside : freed_beside member (freed member y lo) y lo hi w ≡ true = ap (λ set. set w) (sym (values_of_other member cs y hi lo (first_here hi lo (same ∙ first_lo)) (λ e. omega arith))) ∙ is_value hi inside in
         let passes : member (slice_set (slice_set y lo v) hi w) ≡ true = beside_each member (freed member y lo) y lo hi v w beside (byte_of lo inside_low) free in
         let apart : lo ≢ hi = λ e. omega arith in
         let within : lo < length y = rw a.long inside_low in
@@ -174,7 +163,7 @@ module _ (cs : List Tree) (n : ℕ) (y : List ℕ) (member : List ℕ → Bool) 
         holds_alike t (slice_set (slice_set y lo v) hi w) c (input_with n (slice_set y lo v) hi w (input_with n y lo v a (byte_of lo inside_low)) (byte_of hi inside)) passes
         (λ k q. elim (cases_eq k lo) [
           | inl at_low ↦ rw at_low (sym (get_or-set_other (slice_set y lo v) hi lo w 0 apart ∙ get_or-set_same y lo v 0 within))
-          | inr other ↦ (let at_high : k ≡ hi = one_link cs n none lo k hi inside_low (reads_within t c k q) inside (λ e. other (sym e)) apart (links cs t lo k c r q) up in
+          | inr other ↦ (let at_high : k ≡ hi = one_other cs n none lo k hi inside_low (reads_within t c k q) inside read (read_together cs n t k lo c q r (reads_within t c k q) inside_low) same (λ e. other (sym e)) apart in
               rw at_high (sym (get_or-set_same (slice_set y lo v) hi w 0 within_high)))
         ])
 
@@ -207,7 +196,7 @@ module _ (cs : List Tree) (n : ℕ) (y : List ℕ) (member : List ℕ → Bool) 
     choice_passes = (by z is_input).1 (all_from (λ t. val t z ≡ 1) cs condition_holds)
 
   -- so the sets bound the size of the class
-  pub class_is_bounded_by : 256 ^ n ≤ class_size member n * 2 ^ revealed (sets_by_links member cs y)
+  pub class_is_bounded_by : 256 ^ n ≤ class_size member n * 2 ^ revealed (sets_by_groups member cs y)
   class_is_bounded_by =
-      let P : ℕ → Type 0 = λ k. 256 ^ k ≤ class_size member k * 2 ^ revealed (sets_by_links member cs y) in
-      subst P (length_sets member cs y ∙ a.long) (bound member (sets_by_links member cs y) (sets_are_filled cs n y member a m) choice_passes)
+      let P : ℕ → Type 0 = λ k. 256 ^ k ≤ class_size member k * 2 ^ revealed (sets_by_groups member cs y) in
+      subst P (length_sets member cs y ∙ a.long) (bound member (sets_by_groups member cs y) (sets_are_filled cs n y member a m) choice_passes)

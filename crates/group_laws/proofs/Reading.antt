@@ -1,21 +1,13 @@
 -- What a tree reads.
 use Rattle.std.proofs.Common.{◌≡◌, ◌⊎◌, inl, inr, ℕ, Bool, true, false, ◌||◌, refl}
-use Rattle.std.proofs.lemmas.Bool.{or_cases}
+use Rattle.std.proofs.lemmas.Bool.{or_cases, or_left, or_right}
 use Rattle.term_model.specs.Tree.{Tree, Const, Input, Apply}
 use Rattle.term_model.specs.Places.{reads, ReadsNothing}
-use Rattle.group_laws.proofs.Links.{itself}
+use Rattle.group_laws.proofs.Firsts.{itself}
 
 -- a tree reads nothing, or some place
 abbrev pub Reading : Tree → Type 0
 Reading t = ReadsNothing t ⊎ ((i : ℕ) × (reads t i ≡ true))
-
-or_left : (a b : Bool) → a ≡ true → (a || b) ≡ true
-or_left true b h = refl
-or_left false b h = cc
-
-or_right : (a b : Bool) → b ≡ true → (a || b) ≡ true
-or_right true b h = refl
-or_right false b h = h
 
 -- each tree does
 pub reading : (t : Tree) → Reading t
