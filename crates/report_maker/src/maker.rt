@@ -25,7 +25,7 @@ use term_arena::Arena;
 use trace_conditions::conditions_hold_of_the_class;
 
 /// A report, and how its bytes were divided.
-#[derive(Drop)]
+#[derive(Debug, Drop)]
 pub struct Made {
     /// The report.
     pub report: Report,
