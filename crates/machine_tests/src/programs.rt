@@ -1,32 +1,5 @@
 //! The words of programs, as GNU as gives them.
 
-/// Reads four bytes, and meets an EBREAK where the first is 65. Else it exits with the answer of the read.
-pub const COMPARE: [u32; 10] = [
-    0x0001_0593,
-    0x0040_0613,
-    0x03f0_0893,
-    0x0000_0073,
-    0x0001_4283,
-    0x0410_0313,
-    0x0062_8663,
-    0x05d0_0893,
-    0x0000_0073,
-    0x0010_0073,
-];
-
-/// Reads 64 bytes to a buffer of 28, and returns to what they made of the return address.
-pub const OVERFLOW: [u32; 9] = [
-    0xfe01_0113,
-    0x0011_2e23,
-    0x0001_0593,
-    0x0400_0613,
-    0x03f0_0893,
-    0x0000_0073,
-    0x01c1_2083,
-    0x0201_0113,
-    0x0000_8067,
-];
-
 /// The call write on descriptor 1 of two bytes from the last address on. It exits with the answer.
 pub const WRITE_PAST_MEMORY: [u32; 7] = [
     0x0010_0513,
@@ -83,15 +56,19 @@ pub const READ_IN_PARTS: [u32; 28] = [
     0x0000_0073,
 ];
 
-/// Stores `addi x10,x0,7` over `addi x10,x0,1`, executes it, and exits with x10.
-pub const OVERWRITE_THE_NEXT: [u32; 7] = [
-    0x0001_02b7,
-    0x0182_a303,
-    0x0062_a623,
-    0x0010_0513,
+/// Stores `addi x10,x0,7` and `jalr x0,0(x1)` at 00020000, calls there, and exits with x10.
+pub const RUN_WHAT_IT_STORED: [u32; 11] = [
+    0x0002_02b7,
+    0x0001_03b7,
+    0x0243_a303,
+    0x0062_a023,
+    0x0283_a303,
+    0x0062_a223,
+    0x0002_80e7,
     0x05d0_0893,
     0x0000_0073,
     0x0070_0513,
+    0x0000_8067,
 ];
 
 /// Stores, loads, tests and executes across the end of the address space, and exits with 41.
@@ -261,12 +238,6 @@ pub const STORE_ACROSS_THE_STACK: [u32; 4] = [0x8000_02b7, 0xfff0_0313, 0xfe62_a
 
 /// Loads a half word from the last byte of the stack on.
 pub const LOAD_ACROSS_THE_STACK: [u32; 4] = [0x8000_02b7, 0xfe22_8fa3, 0xfff2_9303, 0x0010_0073];
-
-/// `lw x0,0(x0)`, where there is no memory.
-pub const LOAD_X0: [u32; 1] = [0x0000_2003];
-
-/// `jalr x0,2(x0)`.
-pub const JUMP_TO_TWO: [u32; 1] = [0x0020_0067];
 
 /// `jal x1` to an address that is no multiple of 4.
 pub const JUMP_BETWEEN_WORDS: [u32; 3] = [0x0090_0093, 0x0060_00ef, 0x0010_0073];

@@ -1,8 +1,7 @@
-use crate::files::image_of;
 use crate::programs::{
-    ACCESSES, BRANCHES, COMPARE, JUMP_BETWEEN_WORDS, JUMP_TO_TWO, JUMPS, LOAD_ACROSS_THE_STACK,
-    LOAD_X0, OVERFLOW, OVERWRITE_THE_NEXT, READ_IN_PARTS, READ_OTHER_DESCRIPTOR,
-    STORE_ACROSS_THE_STACK, UNKNOWN_CALL, WRAP_AROUND, WRITE_PAST_MEMORY, WRITE_X0,
+    ACCESSES, BRANCHES, JUMP_BETWEEN_WORDS, JUMPS, LOAD_ACROSS_THE_STACK, READ_IN_PARTS,
+    READ_OTHER_DESCRIPTOR, RUN_WHAT_IT_STORED, STORE_ACROSS_THE_STACK, UNKNOWN_CALL, WRAP_AROUND,
+    WRITE_PAST_MEMORY, WRITE_X0,
 };
 use elf32::Image;
 use rv_event::{End, Event, EventKind, Trap, TrapKind};
@@ -10,9 +9,11 @@ use rv_machine::{Machine, trace_of};
 use std::alloc::Global;
 use std::process::Abort;
 use std::test::Fail;
+use test_programs::words::{COMPARE, EBREAK, JUMP_TO_TWO, LOAD_X0, NOP, OVERFLOW};
+use test_programs::{program_image, zeros};
 
-/// The rights of code that may not be written.
-const CODE: u32 = 5;
+/// A jump to 00020000.
+const JUMP_AWAY: [u32; 2] = [0x0002_02b7, 0x0002_8067];
 
 fn trap(kind: TrapKind, pc: u32, value: u32) -> End {
     End::Trap(Trap { kind, pc, value })
@@ -45,7 +46,7 @@ fn expect(
     steps: usize,
     end: End,
 ) -> Result<(), Fail> {
-    let image = image_of(alloc, words, CODE, &[])?;
+    let image = program_image(alloc, words, &[])?;
     ends(rt, alloc, &image, input, steps, end)
 }
 
@@ -67,7 +68,7 @@ fn overflows_a_buffer(rt: HostRuntime) -> Result<(), Fail> {
 }
 
 #[test]
-fn traps_on_the_first_word(rt: HostRuntime) -> Result<(), Fail> {
+fn traps_on_a_word(rt: HostRuntime) -> Result<(), Fail> {
     let alloc = rt.alloc();
     expect(
         &rt,
@@ -85,14 +86,9 @@ fn traps_on_the_first_word(rt: HostRuntime) -> Result<(), Fail> {
         1,
         trap(TrapKind::MisalignedJump, 0x1_0000, 2),
     )?;
-    expect(
-        &rt,
-        alloc,
-        &[0],
-        &[],
-        1,
-        trap(TrapKind::Illegal, 0x1_0000, 0),
-    )
+    let image = program_image(alloc, &JUMP_AWAY, &[zeros(alloc, 0x2_0000, 4, 5)])?;
+    let end = trap(TrapKind::Illegal, 0x2_0000, 0);
+    ends(&rt, alloc, &image, &[], 3, end)
 }
 
 #[test]
@@ -131,14 +127,17 @@ fn reads_in_parts(rt: HostRuntime) -> Result<(), Fail> {
 
 #[test]
 fn executes_what_it_stored(rt: HostRuntime) -> Result<(), Fail> {
-    let image = image_of(rt.alloc(), &OVERWRITE_THE_NEXT, 7, &[])?;
-    ends(&rt, rt.alloc(), &image, &[], 6, End::Exit(7))
+    let alloc = rt.alloc();
+    let image = program_image(alloc, &RUN_WHAT_IT_STORED, &[zeros(alloc, 0x2_0000, 8, 7)])?;
+    ends(&rt, alloc, &image, &[], 11, End::Exit(7))
 }
 
 #[test]
 fn wraps_around(rt: HostRuntime) -> Result<(), Fail> {
-    let image = image_of(rt.alloc(), &WRAP_AROUND, CODE, &[(0xffff_fff8, 8), (0, 16)])?;
-    ends(&rt, rt.alloc(), &image, &[], 32, End::Exit(41))
+    let alloc = rt.alloc();
+    let regions = [zeros(alloc, 0xffff_fff8, 8, 7), zeros(alloc, 0, 16, 7)];
+    let image = program_image(alloc, &WRAP_AROUND, &regions)?;
+    ends(&rt, alloc, &image, &[], 32, End::Exit(41))
 }
 
 #[test]
@@ -186,10 +185,9 @@ fn loads_and_stores(rt: HostRuntime) -> Result<(), Fail> {
 #[test]
 fn stops_at_the_limit(rt: HostRuntime) -> Result<(), Fail> {
     let alloc = rt.alloc();
-    // 999 times addi x0,x0,0, then ebreak
-    let mut words = vec![in alloc; 0x13u32; 999]?;
-    words.push(0x0010_0073)?;
-    let image = image_of(alloc, &words, CODE, &[])?;
+    let mut words = vec![in alloc; NOP; 999]?;
+    words.push(EBREAK)?;
+    let image = program_image(alloc, &words, &[])?;
     let all = trace_of(alloc, &image, &[], 1000)?;
     assert_eq!(rt; all.events.as_slice().len(), 1000);
     assert_eq!(rt; all.end, trap(TrapKind::Breakpoint, 0x1_0f9c, 0));
@@ -202,7 +200,7 @@ fn stops_at_the_limit(rt: HostRuntime) -> Result<(), Fail> {
 
 #[test]
 fn tells_one_event(rt: HostRuntime) -> Result<(), Fail> {
-    let image = image_of(rt.alloc(), &JUMP_TO_TWO, CODE, &[])?;
+    let image = program_image(rt.alloc(), &JUMP_TO_TWO, &[])?;
     let mut machine = Machine::start(rt.alloc(), &image)?;
     assert!(rt; !machine.is_over());
     let stepped = machine.step(&[]);
@@ -225,7 +223,7 @@ fn tells_one_event(rt: HostRuntime) -> Result<(), Fail> {
 #[test]
 fn runs_on(rt: HostRuntime) -> Result<(), Fail> {
     // jal x0,0 never ends
-    let image = image_of(rt.alloc(), &[0x6f], CODE, &[])?;
+    let image = program_image(rt.alloc(), &[0x6f], &[])?;
     let mut machine = Machine::start(rt.alloc(), &image)?;
     let run = machine.run(&[], 1_000_000);
     assert_eq!(rt; run.steps, 1_000_000);

@@ -1,32 +1,37 @@
-use crate::files::image_of;
-use crate::programs::{BRANCH_TO_THE_NEXT, JUMP_TO_TWO, OVERFLOW, READ_OVER_THE_NEXT, SUM_OF_TWO};
+use elf32::Image;
 use rv_machine::trace_of;
 use rv_word::AluOp;
 use std::alloc::{AllocError, Global};
 use std::test::Fail;
 use sym_replay::replay;
 use term_arena::{Arena, Op, Term};
+use test_programs::words::{BRANCH_TO_THE_NEXT, JUMP_TO_TWO, OVERFLOW, RUN_THE_INPUT, SUM_OF_TWO};
+use test_programs::{program_image, zeros};
 
-/// The rights of code that may not be written, and of code that may.
-const CODE: u8 = 5;
-
-const WRITABLE_CODE: u8 = 7;
-
-/// The conditions of a program's run on an input of up to 64 bytes.
-fn conditions_of(
+/// The conditions of an image's run on an input of up to 64 bytes.
+fn conditions_of_image(
     alloc: Global,
     arena: &mut Arena,
-    code: &[u32],
-    rights: u8,
+    image: &Image,
     input: &[u8],
 ) -> Result<Vec<Term>, Fail> {
     if input.len() > 64 {
         return Err("a long input".into());
     }
-    let image = image_of(alloc, code, rights)?;
-    let transcript = trace_of(alloc, &image, input, 1000)?;
-    let conditions = replay(alloc, &image, &transcript, arena)?;
+    let transcript = trace_of(alloc, image, input, 1000)?;
+    let conditions = replay(alloc, image, &transcript, arena)?;
     Ok(conditions.list().to_vec(alloc)?)
+}
+
+/// The same of a program's words.
+fn conditions_of(
+    alloc: Global,
+    arena: &mut Arena,
+    words: &[u32],
+    input: &[u8],
+) -> Result<Vec<Term>, Fail> {
+    let image = program_image(alloc, words, &[])?;
+    conditions_of_image(alloc, arena, &image, input)
 }
 
 /// The condition that byte `k` of the sum of the first two bytes of the input has this value.
@@ -60,7 +65,7 @@ fn even_input_is(arena: &mut Arena, place: u32, value: u32) -> Result<Term, Allo
 #[test]
 fn a_sum_is_pinned_by_its_bytes(rt: HostRuntime) -> Result<(), Fail> {
     let mut arena = Arena::new(rt.alloc())?;
-    let found = conditions_of(rt.alloc(), &mut arena, &SUM_OF_TWO, CODE, &[0x32, 0x32])?;
+    let found = conditions_of(rt.alloc(), &mut arena, &SUM_OF_TWO, &[0x32, 0x32])?;
     let wanted = [
         sum_byte_is(&mut arena, 0, 0x64)?,
         sum_byte_is(&mut arena, 1, 0)?,
@@ -74,7 +79,7 @@ fn a_sum_is_pinned_by_its_bytes(rt: HostRuntime) -> Result<(), Fail> {
 #[test]
 fn a_return_address_is_pinned_but_for_one_bit(rt: HostRuntime) -> Result<(), Fail> {
     let mut arena = Arena::new(rt.alloc())?;
-    let found = conditions_of(rt.alloc(), &mut arena, &OVERFLOW, CODE, &[0x61; 64])?;
+    let found = conditions_of(rt.alloc(), &mut arena, &OVERFLOW, &[0x61; 64])?;
     let wanted = [
         even_input_is(&mut arena, 28, 0x60)?,
         input_is(&mut arena, 29, 0x61)?,
@@ -89,7 +94,7 @@ fn a_return_address_is_pinned_but_for_one_bit(rt: HostRuntime) -> Result<(), Fai
 fn a_branch_to_the_next_instruction_shows_nothing(rt: HostRuntime) -> Result<(), Fail> {
     let mut arena = Arena::new(rt.alloc())?;
     for byte in [0, 0x55] {
-        let found = conditions_of(rt.alloc(), &mut arena, &BRANCH_TO_THE_NEXT, CODE, &[byte])?;
+        let found = conditions_of(rt.alloc(), &mut arena, &BRANCH_TO_THE_NEXT, &[byte])?;
         assert_eq!(rt; found.len(), 0);
     }
     Ok(())
@@ -97,16 +102,12 @@ fn a_branch_to_the_next_instruction_shows_nothing(rt: HostRuntime) -> Result<(),
 
 #[test]
 fn bytes_that_are_fetched_are_those_of_the_word(rt: HostRuntime) -> Result<(), Fail> {
+    let alloc = rt.alloc();
     let mut arena = Arena::new(rt.alloc())?;
     // ebreak
     let input = [0x73, 0, 0x10, 0];
-    let found = conditions_of(
-        rt.alloc(),
-        &mut arena,
-        &READ_OVER_THE_NEXT,
-        WRITABLE_CODE,
-        &input,
-    )?;
+    let image = program_image(alloc, &RUN_THE_INPUT, &[zeros(alloc, 0x2_0000, 4, 7)])?;
+    let found = conditions_of_image(alloc, &mut arena, &image, &input)?;
     let wanted = [
         input_is(&mut arena, 0, 0x73)?,
         input_is(&mut arena, 1, 0)?,
@@ -120,7 +121,7 @@ fn bytes_that_are_fetched_are_those_of_the_word(rt: HostRuntime) -> Result<(), F
 #[test]
 fn a_misaligned_jump_shows_nothing(rt: HostRuntime) -> Result<(), Fail> {
     let mut arena = Arena::new(rt.alloc())?;
-    let found = conditions_of(rt.alloc(), &mut arena, &JUMP_TO_TWO, CODE, &[0x61])?;
+    let found = conditions_of(rt.alloc(), &mut arena, &JUMP_TO_TWO, &[0x61])?;
     assert_eq!(rt; found.len(), 0);
     Ok(())
 }
