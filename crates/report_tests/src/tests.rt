@@ -1,0 +1,434 @@
+use crate::case::{Case, expect, expect_revealed, expect_text, is_range};
+use crate::make::{made_of, made_of_file};
+use crate::programs::{EACH_BYTE, MARKED_BYTES, PAIRS_AND_A_BYTE, THREE_TIMES};
+use report_maker::MakeError;
+use rv_assemble::Region;
+use rv_event::{Trap, TrapKind};
+use std::alloc::Global;
+use std::process::Abort;
+use std::test::Fail;
+use test_programs::words::{
+    BELOW_TEN, BRANCH_TO_THE_NEXT, COMPARE_WORD, DIVIDE, EBREAK, EQUAL_PAIR, JOINED_TRIPLE,
+    JUMP_TO_TWO, LOAD_X0, OVERFLOW, RISING_PAIR, RUN_THE_INPUT, SUM_OF_TWO,
+};
+use test_programs::{program_file, zeros};
+
+/// Asserts that the report of a case's program says what the case says.
+fn meets(rt: &impl Abort, alloc: Global, case: &Case) -> Result<(), Fail> {
+    let made = made_of(alloc, case.words, &[], case.input, case.seed)??;
+    expect(rt, &made, case);
+    Ok(())
+}
+
+/// The input in place of one that overflows a buffer of 28 bytes: the return address is its own.
+const OVERFLOWN: [u8; 64] = [
+    0, 0, 0, 0, 0, 0, 0, 0, 0, 0, 0, 0, 0, 0, 0, 0, 0, 0, 0, 0, 0, 0, 0, 0, 0, 0, 0, 0, 0x60, 0x61,
+    0x61, 0x61, 0, 0, 0, 0, 0, 0, 0, 0, 0, 0, 0, 0, 0, 0, 0, 0, 0, 0, 0, 0, 0, 0, 0, 0, 0, 0, 0, 0,
+    0, 0, 0, 0,
+];
+
+/// One byte is tested at a time: each is a group of its own.
+#[test]
+fn single_bytes(rt: HostRuntime) -> Result<(), Fail> {
+    let cases = [
+        Case {
+            words: &BELOW_TEN,
+            input: b"\x07",
+            seed: 0,
+            trap: Trap {
+                kind: TrapKind::Breakpoint,
+                pc: 0x1_0024,
+                value: 0,
+            },
+            steps: 8,
+            first: b"\x00",
+            sets: &[(0, 0, 9)],
+            revealed: 5,
+            groups: 1,
+        },
+        Case {
+            words: &DIVIDE,
+            input: b"\x00",
+            seed: 0,
+            trap: Trap {
+                kind: TrapKind::Breakpoint,
+                pc: 0x1_002c,
+                value: 0,
+            },
+            steps: 10,
+            first: b"\x00",
+            sets: &[(0, 0, 0)],
+            revealed: 8,
+            groups: 1,
+        },
+        Case {
+            words: &COMPARE_WORD,
+            input: b"xV4\x12",
+            seed: 0,
+            trap: Trap {
+                kind: TrapKind::Breakpoint,
+                pc: 0x1_0028,
+                value: 0,
+            },
+            steps: 9,
+            first: b"xV4\x12",
+            sets: &[
+                (0, 0x78, 0x78),
+                (1, 0x56, 0x56),
+                (2, 0x34, 0x34),
+                (3, 0x12, 0x12),
+            ],
+            revealed: 32,
+            groups: 4,
+        },
+        Case {
+            words: &OVERFLOW,
+            input: &[0x61; 64],
+            seed: 0,
+            trap: Trap {
+                kind: TrapKind::FetchFault,
+                pc: 0x6161_6160,
+                value: 0x6161_6160,
+            },
+            steps: 10,
+            first: &OVERFLOWN,
+            sets: &[
+                (28, 0x60, 0x61),
+                (29, 0x61, 0x61),
+                (30, 0x61, 0x61),
+                (31, 0x61, 0x61),
+            ],
+            revealed: 31,
+            groups: 4,
+        },
+    ];
+    for case in &cases {
+        meets(&rt, rt.alloc(), case)?;
+    }
+    Ok(())
+}
+
+/// Two bytes are tested together: the lower place comes first.
+#[test]
+fn pairs_of_bytes(rt: HostRuntime) -> Result<(), Fail> {
+    let cases = [
+        Case {
+            words: &SUM_OF_TWO,
+            input: b"22",
+            seed: 0,
+            trap: Trap {
+                kind: TrapKind::Breakpoint,
+                pc: 0x1_002c,
+                value: 0,
+            },
+            steps: 10,
+            first: b"\x00d",
+            sets: &[(0, 0, 0), (1, 100, 100)],
+            revealed: 16,
+            groups: 1,
+        },
+        Case {
+            words: &RISING_PAIR,
+            input: b"\x10 ",
+            seed: 0,
+            trap: Trap {
+                kind: TrapKind::Breakpoint,
+                pc: 0x1_0024,
+                value: 0,
+            },
+            steps: 8,
+            first: b"\x00\x01",
+            sets: &[(0, 0, 0), (1, 1, 255)],
+            revealed: 9,
+            groups: 1,
+        },
+        Case {
+            words: &EQUAL_PAIR,
+            input: b"22",
+            seed: 0,
+            trap: Trap {
+                kind: TrapKind::Breakpoint,
+                pc: 0x1_0024,
+                value: 0,
+            },
+            steps: 8,
+            first: b"\x00\x00",
+            sets: &[(0, 0, 0), (1, 0, 0)],
+            revealed: 16,
+            groups: 1,
+        },
+        Case {
+            words: &PAIRS_AND_A_BYTE,
+            input: b"x\x10. x\x07!",
+            seed: 0,
+            trap: Trap {
+                kind: TrapKind::Breakpoint,
+                pc: 0x1_003c,
+                value: 0,
+            },
+            steps: 14,
+            first: b"\x00\x00\x00\x01\x00\x00\x00",
+            sets: &[(0, 0, 0), (1, 0, 0), (3, 1, 255), (4, 0, 0), (5, 0, 9)],
+            revealed: 30,
+            groups: 3,
+        },
+    ];
+    for case in &cases {
+        meets(&rt, rt.alloc(), case)?;
+    }
+    Ok(())
+}
+
+/// No condition is on the input: there is no group.
+#[test]
+fn bytes_that_show_nothing(rt: HostRuntime) -> Result<(), Fail> {
+    let cases = [
+        Case {
+            words: &BRANCH_TO_THE_NEXT,
+            input: b"U",
+            seed: 0,
+            trap: Trap {
+                kind: TrapKind::Breakpoint,
+                pc: 0x1_0018,
+                value: 0,
+            },
+            steps: 7,
+            first: b"\x00",
+            sets: &[],
+            revealed: 0,
+            groups: 0,
+        },
+        Case {
+            words: &LOAD_X0,
+            input: b"",
+            seed: 0,
+            trap: Trap {
+                kind: TrapKind::LoadFault,
+                pc: 0x1_0000,
+                value: 0,
+            },
+            steps: 1,
+            first: b"",
+            sets: &[],
+            revealed: 0,
+            groups: 0,
+        },
+        Case {
+            words: &JUMP_TO_TWO,
+            input: b"",
+            seed: 0,
+            trap: Trap {
+                kind: TrapKind::MisalignedJump,
+                pc: 0x1_0000,
+                value: 0x2,
+            },
+            steps: 1,
+            first: b"",
+            sets: &[],
+            revealed: 0,
+            groups: 0,
+        },
+    ];
+    for case in &cases {
+        meets(&rt, rt.alloc(), case)?;
+    }
+    Ok(())
+}
+
+/// The first bytes of the generator `Lcg64Xsh32` that `seed_from_u64(1)` makes are
+/// `e6 0b a7 33 ee f3 bc 7d 51 47 df ca`. A byte that no condition is on is theirs, and of the values that a byte may
+/// have the first is the one whose xor with theirs is least.
+#[test]
+fn the_order_of_a_seed(rt: HostRuntime) -> Result<(), Fail> {
+    let cases = [
+        Case {
+            words: &BRANCH_TO_THE_NEXT,
+            input: b"U",
+            seed: 1,
+            trap: Trap {
+                kind: TrapKind::Breakpoint,
+                pc: 0x1_0018,
+                value: 0,
+            },
+            steps: 7,
+            first: b"\xe6",
+            sets: &[],
+            revealed: 0,
+            groups: 0,
+        },
+        Case {
+            words: &SUM_OF_TWO,
+            input: b"22",
+            seed: 1,
+            trap: Trap {
+                kind: TrapKind::Breakpoint,
+                pc: 0x1_002c,
+                value: 0,
+            },
+            steps: 10,
+            first: b"d\x00",
+            sets: &[(0, 100, 100), (1, 0, 0)],
+            revealed: 16,
+            groups: 1,
+        },
+        Case {
+            words: &MARKED_BYTES,
+            input: b"abcAefg\x05hijk",
+            seed: 1,
+            trap: Trap {
+                kind: TrapKind::Breakpoint,
+                pc: 0x1_0030,
+                value: 0,
+            },
+            steps: 11,
+            first: b"\xe6\x0b\xa7A\xee\xf3\xbc\x0dQG\xdf\xca",
+            sets: &[(3, 65, 65), (7, 0, 15)],
+            revealed: 12,
+            groups: 2,
+        },
+        Case {
+            words: &PAIRS_AND_A_BYTE,
+            input: b"x\x10. x\x07!",
+            seed: 1,
+            trap: Trap {
+                kind: TrapKind::Breakpoint,
+                pc: 0x1_003c,
+                value: 0,
+            },
+            steps: 14,
+            first: b"\xe6\x0b\xa73\xe6\x03\xbc",
+            sets: &[
+                (0, 0xe6, 0xe6),
+                (1, 0, 50),
+                (3, 51, 255),
+                (4, 0xe6, 0xe6),
+                (5, 0, 9),
+            ],
+            revealed: 25,
+            groups: 3,
+        },
+    ];
+    for case in &cases {
+        meets(&rt, rt.alloc(), case)?;
+    }
+    Ok(())
+}
+
+const FETCHED: &[u8] = b"crash-report 1
+program 140 37f61e36396734c11954a4e8c4c59b9e3bf009007ec513235409499a7ddb188b
+trap breakpoint 00020000 00000000
+steps 7
+seed 0
+input 4
+data 73001000
+set 0 1 0000000000000000000000000000080000000000000000000000000000000000
+set 1 1 0100000000000000000000000000000000000000000000000000000000000000
+set 2 1 0000010000000000000000000000000000000000000000000000000000000000
+set 3 1 0100000000000000000000000000000000000000000000000000000000000000
+revealed 32 of 32
+end
+";
+
+/// The input is run: each byte of the word that is fetched is fixed.
+#[test]
+fn bytes_that_are_fetched(rt: HostRuntime) -> Result<(), Fail> {
+    let alloc = rt.alloc();
+    let regions = [zeros(alloc, 0x2_0000, 4, 7)];
+    let made = made_of(alloc, &RUN_THE_INPUT, &regions, &[0x73, 0, 0x10, 0], 0)??;
+    expect_text(&rt, alloc, &made, FETCHED)?;
+    assert_eq!(rt; made.groups, 4);
+    Ok(())
+}
+
+const ILLEGAL: &[u8] = b"crash-report 1
+program 88 68796b6d60d888725d5fe9b4fd0c3609363ceb2f43814b7d2752e112c5106bd5
+trap illegal 00010000 00000000
+steps 1
+seed 0
+input 0
+revealed 0 of 0
+end
+";
+
+/// The one word of a program stands for no instruction.
+#[test]
+fn a_word_that_is_illegal(rt: HostRuntime) -> Result<(), Fail> {
+    let alloc = rt.alloc();
+    let mut file = program_file(alloc, &[EBREAK], &[])?.into_vec();
+    assert_eq!(rt; file.len(), 88);
+    file.truncate(84);
+    file.extend_from_slice(&[0; 4])?;
+    let made = made_of_file(alloc, file.as_slice(), &[], 0)??;
+    expect_text(&rt, alloc, &made, ILLEGAL)?;
+    assert_eq!(rt; made.groups, 0);
+    Ok(())
+}
+
+const OF_A_SEED: &[u8] = b"crash-report 1
+program 112 e6baf64eb7baf8702d1a3129866ecba6720ec7b824ad5a43cf9bfaab186b4f40
+trap breakpoint 00010018 00000000
+steps 7
+seed 1
+input 1
+data e6
+revealed 0 of 8
+end
+";
+
+/// The text says the seed.
+#[test]
+fn the_text_of_a_seed(rt: HostRuntime) -> Result<(), Fail> {
+    let alloc = rt.alloc();
+    let made = made_of(alloc, &BRANCH_TO_THE_NEXT, &[], b"U", 1)??;
+    expect_text(&rt, alloc, &made, OF_A_SEED)?;
+    Ok(())
+}
+
+/// Whether no report is made since more than two bytes are joined.
+fn is_wide(alloc: Global, words: &[u32], regions: &[Region], input: &[u8]) -> Result<bool, Fail> {
+    let made = made_of(alloc, words, regions, input, 0)?;
+    Ok(matches!(made, Err(MakeError::Wide)))
+}
+
+/// Three bytes are joined, by tests of two at a time or by one word.
+#[test]
+fn three_bytes_joined(rt: HostRuntime) -> Result<(), Fail> {
+    let alloc = rt.alloc();
+    let regions = [zeros(alloc, 0x2_0000, 3, 6)];
+    for input in [[0xff, 0xff, 0xff], [1, 0, 1], [0xfd, 0xfe, 3]] {
+        assert!(rt; is_wide(alloc, &JOINED_TRIPLE, &regions, &input)?);
+        assert!(rt; is_wide(alloc, &THREE_TIMES, &[], &input)?);
+    }
+    Ok(())
+}
+
+/// Byte `i` of the input of 4096 bytes is `37 * i + 11` by 256.
+fn large_input(alloc: Global) -> Result<Vec<u8>, Fail> {
+    let mut input = Vec::new(alloc);
+    for i in 0..4096u32 {
+        input.push(((37 * i + 11) % 256) as u8)?;
+    }
+    Ok(input)
+}
+
+/// Each of 4096 bytes is compared with 128.
+#[test]
+fn a_large_input(rt: HostRuntime) -> Result<(), Fail> {
+    let alloc = rt.alloc();
+    let input = large_input(alloc)?;
+    let regions = [zeros(alloc, 0x2_0000, 4096, 6)];
+    let made = made_of(alloc, &EACH_BYTE, &regions, input.as_slice(), 0)??;
+    let (first, sets) = (made.report.input.as_slice(), made.report.sets.as_slice());
+    assert_eq!(rt; made.groups, 4096);
+    assert_eq!(rt; made.report.steps, 22_535);
+    assert_eq!(rt; input.len(), 4096);
+    assert_eq!(rt; first.len(), 4096);
+    assert_eq!(rt; sets.len(), 4096);
+    for i in 0..4096 {
+        let lowest = if input[i] < 128 { 0 } else { 128 };
+        assert_eq!(rt; u32::from(first[i]), lowest);
+        assert!(rt; is_range(&sets[i], lowest, lowest + 127));
+    }
+    expect_revealed(&rt, sets, 4096);
+    Ok(())
+}
