@@ -6,43 +6,25 @@ use crate::tool::run_tool;
 use fault_io::{Bytes, FetchFault, Fetched, FileList, Folder, MemSink, NamedFile, SteadyFolder};
 use std::alloc::{AllocError, Global};
 use std::test::Fail;
-
-const EBREAK: u32 = 0x0010_0073;
-
-/// addi x0,x0,0
-const NOP: u32 = 0x0000_0013;
+use test_programs::words::{EBREAK, NOP};
+use test_programs::{ProgramError, program_file};
 
 /// addi x17,x0,93, and the ECALL of an exit
 const EXIT: [u32; 2] = [0x05d0_0893, 0x0000_0073];
 
-/// What stands before the code in a file of one segment at 00010000, but for the two sizes.
-const BEFORE_SIZES: [u8; 68] = [
-    0x7f, b'E', b'L', b'F', 1, 1, 1, 0, 0, 0, 0, 0, 0, 0, 0, 0, // e_ident
-    2, 0, 243, 0, 1, 0, 0, 0, // e_type, e_machine, e_version
-    0, 0, 1, 0, 52, 0, 0, 0, 0, 0, 0, 0, 0, 0, 0, 0, // e_entry, e_phoff, e_shoff, e_flags
-    52, 0, 32, 0, 1, 0, 0, 0, 0, 0, 0, 0, // e_ehsize, e_phentsize, e_phnum, sections
-    1, 0, 0, 0, 84, 0, 0, 0, 0, 0, 1, 0, 0, 0, 1, 0, // p_type, p_offset, p_vaddr, p_paddr
-];
+/// lui x5,0x12345; addi x5,x5,0x678; ebreak
+const NOTHING_READ: [u32; 3] = [0x1234_52b7, 0x6782_8293, EBREAK];
 
-/// A program file with this code.
-fn program(alloc: Global, code: &[u32]) -> Result<Vec<u8>, AllocError> {
-    let mut file = Vec::new(alloc);
-    file.extend_from_slice(&BEFORE_SIZES)?;
-    let size = ((code.len() % 0x1000_0000) as u32 * 4).to_le_bytes();
-    file.extend_from_slice(&size)?;
-    file.extend_from_slice(&size)?;
-    file.extend_from_slice(&[5, 0, 0, 0, 1, 0, 0, 0])?;
-    for word in code {
-        file.extend_from_slice(&word.to_le_bytes())?;
-    }
-    Ok(file)
+/// A program file of these words.
+fn program(alloc: Global, words: &[u32]) -> Result<Vec<u8>, ProgramError> {
+    Ok(program_file(alloc, words, &[])?.into_vec())
 }
 
 /// A program file of so many instructions that do nothing, and an EBREAK.
-fn long_program(alloc: Global, nops: usize) -> Result<Vec<u8>, AllocError> {
-    let mut code = vec![in alloc; NOP; nops]?;
-    code.push(EBREAK)?;
-    program(alloc, code.as_slice())
+fn long_program(alloc: Global, nops: usize) -> Result<Vec<u8>, ProgramError> {
+    let mut words = vec![in alloc; NOP; nops]?;
+    words.push(EBREAK)?;
+    program(alloc, words.as_slice())
 }
 
 fn named(alloc: Global, name: &str, bytes: Vec<u8>) -> Result<NamedFile, AllocError> {
@@ -126,9 +108,7 @@ fn a_breakpoint_on_the_empty_input(rt: HostRuntime) -> Result<(), Fail> {
 #[test]
 fn an_input_that_is_never_read(rt: HostRuntime) -> Result<(), Fail> {
     let alloc = rt.alloc();
-    // lui x5,0x12345; addi x5,x5,0x678; ebreak
-    let program = program(alloc, &[0x1234_52b7, 0x6782_8293, EBREAK])?;
-    let input = b"forty bytes of text that nobody may read".to_vec(alloc)?;
+    let text = b"forty bytes of text that nobody may read";
     let report = b"crash-report 1
 program 96 bf611f4db8db5efc5a3a0cdf416b1bc125ffe2466e00944cdfd0cb9a073ce2a4
 trap breakpoint 00010008 00000000
@@ -140,7 +120,10 @@ data 0000000000000000
 revealed 0 of 320
 end
 ";
-    assert!(rt; says(alloc, program, input, 0, report, b"")?);
+    for input in [text, &[0u8; 40]] {
+        let program = program(alloc, &NOTHING_READ)?;
+        assert!(rt; says(alloc, program, input.to_vec(alloc)?, 0, report, b"")?);
+    }
     Ok(())
 }
 

@@ -1,6 +1,6 @@
 use crate::case::{Case, expect, expect_revealed, expect_text, is_range};
 use crate::make::{made_of, made_of_file};
-use crate::programs::{EACH_BYTE, MARKED_BYTES, PAIRS_AND_A_BYTE, THREE_TIMES};
+use crate::programs::{EACH_BYTE, THREE_TIMES};
 use report_maker::MakeError;
 use rv_assemble::Region;
 use rv_event::{Trap, TrapKind};

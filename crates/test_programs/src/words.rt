@@ -149,7 +149,46 @@ pub const LOAD_X0: [u32; 1] = [0x0000_2003];
 /// `jalr x0,2(x0)`.
 pub const JUMP_TO_TWO: [u32; 1] = [0x0020_0067];
 
-/// Reads three bytes to 00020000, and meets an EBREAK where the lowest bits of the first and the last are 1. It tests two bytes at a time: first or second, first or not second, second or third.
+/// Reads twelve bytes, and meets an EBREAK where the fourth is 65 and the eighth is below 16. Else it exits.
+pub const MARKED_BYTES: [u32; 13] = [
+    0x0001_0593,
+    0x00c0_0613,
+    0x03f0_0893,
+    0x0000_0073,
+    0x0031_4283,
+    0x0410_0313,
+    0x0062_9863,
+    0x0071_4283,
+    0x0100_0313,
+    0x0062_e663,
+    0x05d0_0893,
+    0x0000_0073,
+    0x0010_0073,
+];
+
+/// Reads seven bytes, and meets an EBREAK where the first is the fifth, the second is below the fourth
+/// and the sixth is below 10. Else it exits.
+pub const PAIRS_AND_A_BYTE: [u32; 16] = [
+    0x0001_0593,
+    0x0070_0613,
+    0x03f0_0893,
+    0x0000_0073,
+    0x0001_4283,
+    0x0041_4303,
+    0x0062_9e63,
+    0x0011_4283,
+    0x0031_4303,
+    0x0062_f863,
+    0x0051_4283,
+    0x00a0_0313,
+    0x0062_e663,
+    0x05d0_0893,
+    0x0000_0073,
+    0x0010_0073,
+];
+
+/// Reads three bytes to 00020000, and meets an EBREAK where these lowest bits are 1: of the first or the
+/// second, of the first or the second's complement, and of the second or the third. Else it exits.
 pub const JOINED_TRIPLE: [u32; 26] = [
     0x0002_05b7,
     0x0000_0637,
