@@ -9,7 +9,8 @@ use std::process::Abort;
 use std::test::Fail;
 use test_programs::words::{
     BELOW_TEN, BRANCH_TO_THE_NEXT, COMPARE_WORD, DIVIDE, EBREAK, EQUAL_PAIR, JOINED_TRIPLE,
-    JUMP_TO_TWO, LOAD_X0, OVERFLOW, RISING_PAIR, RUN_THE_INPUT, SUM_OF_TWO,
+    JUMP_TO_TWO, LOAD_X0, MARKED_BYTES, OVERFLOW, PAIRS_AND_A_BYTE, RISING_PAIR, RUN_THE_INPUT,
+    SUM_OF_TWO,
 };
 use test_programs::{program_file, zeros};
 
