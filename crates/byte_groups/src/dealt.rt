@@ -67,7 +67,8 @@ pub(crate) fn deal(
     requires within { (t : ℕ) → Contains conditions.now t → IsLeafBelow (length labels.now) leaves.now t }
     requires labels { (k : ℕ) → k < length labels.now → slice_index labels.now k < length numbers.now }
     requires numbers { (l q : ℕ) → number_at numbers.now l ≡ Some q → q < count }
-    ensures { IfOk result (λ lists. AreDealt (number_of labels.now numbers.now leaves.now) count conditions.now (lists_of lists.items)) }
+    ensures { IfOk result (λ lists.
+        AreDealt (number_of labels.now numbers.now leaves.now) count conditions.now (lists_of lists.items)) }
 {
     let mut lists = empty_lists(alloc, count)?;
     for t in conditions {

@@ -15,9 +15,11 @@ use term_arena::{Arena, Node, Term};
 fn mark(arena: &Arena, t: Term, marks: &mut [bool])
     requires belongs { t < length arena.now }
     requires within { ReadsUpTo arena.now (length marks.old) t }
-    ensures sound { (i : ℕ) → is_marked marks.new i ≡ true → (is_marked marks.old i ≡ true) ⊎ (reads (tree_of arena.now t) i ≡ true) }
+    ensures sound { (i : ℕ) → is_marked marks.new i ≡ true →
+        (is_marked marks.old i ≡ true) ⊎ (reads (tree_of arena.now t) i ≡ true) }
     ensures keeps { (i : ℕ) → is_marked marks.old i ≡ true → is_marked marks.new i ≡ true }
-    ensures all { (among : ℕ → Bool) → ((i : ℕ) → is_marked marks.new i ≡ true → among i ≡ true) → OperandsPass arena.now (ReadsMarked arena.now among) t → ReadsMarked arena.now among t }
+    ensures all { (among : ℕ → Bool) → ((i : ℕ) → is_marked marks.new i ≡ true → among i ≡ true) →
+        OperandsPass arena.now (ReadsMarked arena.now among) t → ReadsMarked arena.now among t }
 {
     match arena.node(t) {
         Node::Input(place) => marks[place as usize] = true,
@@ -30,7 +32,8 @@ fn mark_all(arena: &Arena, terms: &[Term], marks: &mut [bool])
     requires reached { (conditions : List ℕ) × AreReached arena.now conditions terms.now }
     requires within { (t : ℕ) → Contains terms.now t → ReadsUpTo arena.now (length marks.old) t }
     requires none { (i : ℕ) → is_marked marks.old i ≡ false }
-    ensures { (i : ℕ) → (is_marked marks.new i ≡ true) ↔ ((t : ℕ) × Contains terms.now t × (reads (tree_of arena.now t) i ≡ true)) }
+    ensures { (i : ℕ) → (is_marked marks.new i ≡ true)
+        ↔ ((t : ℕ) × Contains terms.now t × (reads (tree_of arena.now t) i ≡ true)) }
 {
     for t in terms {
         mark(arena, *t, marks);
@@ -47,7 +50,8 @@ pub(crate) fn marks_of(
     requires reached { (conditions : List ℕ) × AreReached arena.now conditions terms.now }
     requires within { (t : ℕ) → Contains terms.now t → ReadsUpTo arena.now width t }
     ensures long { IfOk result (λ marks. length marks.items ≡ width) }
-    ensures read { IfOk result (λ marks. (i : ℕ) → (is_marked marks.items i ≡ true) ↔ ((t : ℕ) × Contains terms.now t × (reads (tree_of arena.now t) i ≡ true))) }
+    ensures read { IfOk result (λ marks. (i : ℕ) → (is_marked marks.items i ≡ true)
+        ↔ ((t : ℕ) × Contains terms.now t × (reads (tree_of arena.now t) i ≡ true))) }
 {
     let mut marks = vec![in alloc; false; width]?;
     mark_all(arena, terms, &mut marks);
@@ -93,7 +97,8 @@ pub(crate) fn gather(
     requires numbers { length numbers.old ≡ length labels.now }
     requires none { (l : ℕ) → number_at numbers.old l ≡ None }
     requires small { length labels.now ≤ 2 ^ 32 }
-    ensures { IfOk result (λ lists. AreGathered labels.now marks.now numbers.new (lists_of lists.items) (length labels.now)) }
+    ensures { IfOk result (λ lists.
+        AreGathered labels.now marks.now numbers.new (lists_of lists.items) (length labels.now)) }
 {
     let mut lists = Vec::new(alloc);
     for place in 0..labels.len() {

@@ -91,9 +91,11 @@ fn join_operands(arena: &Arena, t: Term, leaves: &BTreeMap<Term, u32>, parents: 
     requires within { OperandsPass arena.now (IsLeafBelow (length parents.old) leaves.now) t }
     requires parents { AreParents parents.old }
     ensures parents { AreParents parents.new }
-    ensures later { (side : ℕ → Bool) → IsSteadyAlong side parents.old → IsSteadyOn side (tree_of arena.now t) → IsSteadyAlong side parents.new }
+    ensures later { (side : ℕ → Bool) → IsSteadyAlong side parents.old → IsSteadyOn side (tree_of arena.now t) →
+        IsSteadyAlong side parents.new }
     ensures before { (side : ℕ → Bool) → IsSteadyAlong side parents.new → IsSteadyAlong side parents.old }
-    ensures joined { (side : ℕ → Bool) → IsSteadyAlong side parents.new → OperandsPass arena.now (λ u. IsSteadyOn side (tree_of arena.now u)) t → IsSteadyOn side (tree_of arena.now t) }
+    ensures joined { (side : ℕ → Bool) → IsSteadyAlong side parents.new →
+        OperandsPass arena.now (λ u. IsSteadyOn side (tree_of arena.now u)) t → IsSteadyOn side (tree_of arena.now t) }
 {
     match arena.node(t) {
         Node::Const(_) | Node::Input(_) => {}

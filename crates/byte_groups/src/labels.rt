@@ -31,7 +31,8 @@ pub(crate) fn join(parents: &mut [u32], first: u32, second: u32)
     requires within { first < length parents.old }
     requires within_too { second < length parents.old }
     ensures parents { AreParents parents.new }
-    ensures later { (side : ℕ → Bool) → IsSteadyAlong side parents.old → side first ≡ side second → IsSteadyAlong side parents.new }
+    ensures later { (side : ℕ → Bool) → IsSteadyAlong side parents.old → side first ≡ side second →
+        IsSteadyAlong side parents.new }
     ensures before { (side : ℕ → Bool) → IsSteadyAlong side parents.new → IsSteadyAlong side parents.old }
     ensures joined { (side : ℕ → Bool) → IsSteadyAlong side parents.new → side first ≡ side second }
 {
@@ -48,7 +49,8 @@ pub(crate) fn join(parents: &mut [u32], first: u32, second: u32)
 pub(crate) fn flatten(parents: &mut [u32])
     requires { AreParents parents.old }
     ensures same { JoinTheSame parents.old parents.new }
-    ensures flat { (k : ℕ) → k < length parents.new → slice_index parents.new (slice_index parents.new k) ≡ slice_index parents.new k }
+    ensures flat { (k : ℕ) → k < length parents.new →
+        slice_index parents.new (slice_index parents.new k) ≡ slice_index parents.new k }
 {
     for place in 0..parents.len() {
         let above = parents[place];

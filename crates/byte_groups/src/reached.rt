@@ -22,7 +22,8 @@ fn set_of(alloc: Global, terms: &[Term]) -> Result<BTreeSet<Term>, AllocError>
 fn add_operands(arena: &Arena, t: Term, pending: &mut BTreeSet<Term>) -> Result<(), AllocError>
     requires belongs { t < length arena.now }
     ensures keeps { OnOk result ((u : ℕ) → Contains pending.old.keys u → Contains pending.new.keys u) }
-    ensures adds { OnOk result ((u : ℕ) → Contains pending.new.keys u → Contains pending.old.keys u ⊎ IsUnder arena.now t u) }
+    ensures adds { OnOk result ((u : ℕ) → Contains pending.new.keys u →
+        Contains pending.old.keys u ⊎ IsUnder arena.now t u) }
     ensures operands { OnOk result (OperandsPass arena.now (Contains pending.new.keys) t) }
 {
     let _shared = arena.len();

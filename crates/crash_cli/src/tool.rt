@@ -31,8 +31,10 @@ fn read<F: Folder>(
 ) -> Result<Bytes, Refusal>
     ensures files { F.files folder.new ≡ F.files folder.old }
     ensures counts { F.faults folder.old ≤ F.faults folder.new }
-    ensures told { IfSome (F.files folder.old) (λ held. IsReadBut (read_of role limit (held name.now)) (Rose (F.faults folder.old) (F.faults folder.new)) result) }
-    ensures untold { F.files folder.old ≡ None → IfErr result (λ e. IsCannotRead e → Rose (F.faults folder.old) (F.faults folder.new)) }
+    ensures told { IfSome (F.files folder.old) (λ held.
+        IsReadBut (read_of role limit (held name.now)) (Rose (F.faults folder.old) (F.faults folder.new)) result) }
+    ensures untold { F.files folder.old ≡ None →
+        IfErr result (λ e. IsCannotRead e → Rose (F.faults folder.old) (F.faults folder.new)) }
     ensures no_usage { IfErr result (λ e. e ≢ Refusal.Usage) }
     ensures within { IfOk result (λ bytes. length bytes ≤ limit) }
 {
@@ -49,7 +51,8 @@ fn read<F: Folder>(
 fn answer_make<F: Folder>(alloc: Global, make: &Make, folder: &mut F) -> Answer
     ensures files { F.files folder.new ≡ F.files folder.old }
     ensures counts { F.faults folder.old ≤ F.faults folder.new }
-    ensures told { IfSome (F.files folder.old) (λ held. IsTrueBut (made (make_value make.now) held) (Rose (F.faults folder.old) (F.faults folder.new)) result) }
+    ensures told { IfSome (F.files folder.old) (λ held.
+        IsTrueBut (made (make_value make.now) held) (Rose (F.faults folder.old) (F.faults folder.new)) result) }
     ensures untold { F.files folder.old ≡ None → IsReadFault result → Rose (F.faults folder.old) (F.faults folder.new) }
     ensures no_usage { result ≢ Answer.Refused Refusal.Usage }
 {
@@ -71,7 +74,8 @@ fn answer_make<F: Folder>(alloc: Global, make: &Make, folder: &mut F) -> Answer
 fn decide<F: Folder>(alloc: Global, words: &[String], folder: &mut F) -> Answer
     ensures files { F.files folder.new ≡ F.files folder.old }
     ensures counts { F.faults folder.old ≤ F.faults folder.new }
-    ensures told { IfSome (F.files folder.old) (λ held. IsTrueBut (answer_to (make_of (map string_bytes words.now)) held) (Rose (F.faults folder.old) (F.faults folder.new)) result) }
+    ensures told { IfSome (F.files folder.old) (λ held.
+        IsTrueBut (answer_to (make_of (map string_bytes words.now)) held) (Rose (F.faults folder.old) (F.faults folder.new)) result) }
     ensures untold { F.files folder.old ≡ None → IsReadFault result → Rose (F.faults folder.old) (F.faults folder.new) }
     ensures usage { result ≡ Answer.Refused Refusal.Usage ↔ (make_of (map string_bytes words.now) ≡ None) }
 {
@@ -111,7 +115,8 @@ pub fn run_tool<F: Folder, O: Sink, E: Sink>(
 
     // What is on err.
     ensures quiet { result ≡ 0 → TakesNothing (change E.holds E.faults err.old err.new) }
-    ensures line { result ≢ 0 → (line : List ℕ) × IsLineOf result line × TakesLine (change E.holds E.faults err.old err.new) line }
+    ensures line { result ≢ 0 → (line : List ℕ) × IsLineOf result line
+        × TakesLine (change E.holds E.faults err.old err.new) line }
     ensures line_told { IfSome (told_answer (map string_bytes words.now) (F.files folder.old)) (λ answer.
         result ≢ 0 → result ≢ 1 → result ≢ 4 → (result ≡ 3 → NoFault (F.faults folder.old) (F.faults folder.new)) →
         TakesLine (change E.holds E.faults err.old err.new) (err_of answer)) }

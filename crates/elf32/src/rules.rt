@@ -57,7 +57,8 @@ fn lacks_table(bytes: &[u8]) -> bool
 #[tactic(auto, unfolding(crate::specs::Rules::refusal))]
 pub fn check_header(bytes: &[u8]) -> Result<(), ElfError>
     ensures refused { IfErr result (λ e. refusal bytes.now ≡ Some e) }
-    ensures passed { OnOk result (refusal bytes.now ≡ segment_refusal (length bytes.now) (e_entry bytes.now) (headers bytes.now)) }
+    ensures passed { OnOk result (refusal bytes.now
+        ≡ segment_refusal (length bytes.now) (e_entry bytes.now) (headers bytes.now)) }
     ensures memory { result ≢ Err NoMemory }
     ensures long { OnOk result (52 ≤ length bytes.now) }
     ensures few { OnOk result (e_phnum bytes.now ≤ 64) }

@@ -52,7 +52,8 @@ pub trait Folder {
         ensures counts { faults self.old ≤ faults self.new }
 
         // Where the files are told, an answer is the one for what is held under the name.
-        ensures told { IfSome (files self.old) (λ held. IfOk result (λ answer. answer ≡ answer_for (held name.now) limit)) }
+        ensures told { IfSome (files self.old) (λ held.
+            IfOk result (λ answer. answer ≡ answer_for (held name.now) limit)) }
         ensures untold { files self.old ≡ None → result ≢ Ok Fetched.Missing }
         ensures within { IfOk result (IsWithin limit) }
 

@@ -61,7 +61,8 @@ impl<R: Files + Drop> Folder for HostFolder<R> {
 
 /// What a reader has left, in at most `limit + 1` reads. A read that gives no bytes is the end.
 fn read_up_to<R: Read>(alloc: Global, reader: &mut R, limit: u32) -> Result<Fetched, FetchFault>
-    ensures told { IfSome (R.remaining reader.old) (λ left. IfOk result (λ answer. answer ≡ answer_for (Some left) limit)) }
+    ensures told { IfSome (R.remaining reader.old) (λ left.
+        IfOk result (λ answer. answer ≡ answer_for (Some left) limit)) }
     ensures within { IfOk result (IsWithin limit) }
     ensures found { result ≢ Ok Fetched.Missing }
 {

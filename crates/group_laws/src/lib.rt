@@ -33,7 +33,8 @@ ghost use Rattle.group_laws.specs.Parts.{IsByConditions, parts_of, HasFirst, Has
 /// steady on each group.
 pub fn firsts_are_the_finest_division()
     ensures least { (conditions : List Tree) (n i : ℕ) → i < n → first_of conditions n i ≤ i }
-    ensures own { (conditions : List Tree) (n i : ℕ) → i < n → first_of conditions n (first_of conditions n i) ≡ first_of conditions n i }
+    ensures own { (conditions : List Tree) (n i : ℕ) → i < n →
+        first_of conditions n (first_of conditions n i) ≡ first_of conditions n i }
     ensures whole { (conditions : List Tree) (n : ℕ) (t : Tree) (i j : ℕ) →
         Contains conditions t → reads t i ≡ true → reads t j ≡ true → i < n → j < n →
         first_of conditions n i ≡ first_of conditions n j }

@@ -110,6 +110,8 @@ pub fn conditions_hold_by_test()
 
 /// A group's test looks at its places alone, where its conditions read no others.
 pub fn groups_look_at_their_places()
-    ensures looks { (places : List ℕ) (conditions : List Tree) → All (λ t. (i : ℕ) → reads t i ≡ true → Contains places i) conditions → LooksAtItsPlaces (part_of places conditions) }
+    ensures looks { (places : List ℕ) (conditions : List Tree) →
+        All (λ t. (i : ℕ) → reads t i ≡ true → Contains places i) conditions →
+        LooksAtItsPlaces (part_of places conditions) }
     ensures places { (places : List ℕ) (i : ℕ) → IsTrue (is_among places i) ↔ Contains places i }
 {}

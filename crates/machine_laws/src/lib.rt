@@ -13,17 +13,23 @@ ghost use Rattle.machine_laws.specs.Kept.{IsState, Keeps};
 
 /// A run without calls doesn't look at its input: every input of the same length has the same run.
 pub fn a_run_without_calls_ignores_its_input()
-    ensures same { (program : Program) (limit : ℕ) (x y : List ℕ) → length x ≡ length y → All IsNoCall (transcript_of program x limit).events → transcript_of program y limit ≡ transcript_of program x limit }
-    ensures class { (program : Program) (limit : ℕ) (x y : List ℕ) → length x ≡ length y → All IsNoCall (transcript_of program x limit).events → IsTrue (in_class program limit (transcript_of program x limit) y) }
+    ensures same { (program : Program) (limit : ℕ) (x y : List ℕ) → length x ≡ length y →
+        All IsNoCall (transcript_of program x limit).events →
+        transcript_of program y limit ≡ transcript_of program x limit }
+    ensures class { (program : Program) (limit : ℕ) (x y : List ℕ) → length x ≡ length y →
+        All IsNoCall (transcript_of program x limit).events →
+        IsTrue (in_class program limit (transcript_of program x limit) y) }
 {}
 
 /// A step on an input of bytes keeps what holds of each state, and its end is never Limit.
 pub fn keeps_state()
-    ensures { (input : List ℕ) (s : State) → All (λ b. b < 256) input → IsState input s → Keeps (IsState input) (step input s).next }
+    ensures { (input : List ℕ) (s : State) → All (λ b. b < 256) input → IsState input s →
+        Keeps (IsState input) (step input s).next }
 {}
 
 /// The same holds at the start of a program, on every input, where the entry is a word and a multiple of
 /// 4 and the segments hold bytes.
 pub fn starts_in_state()
-    ensures { (input : List ℕ) (entry : ℕ) (segments : List Segment) → entry < 2 ^ 32 → entry % 4 ≡ 0 → All (λ s. All (λ b. b < 256) s.bytes) segments → IsState input (start entry segments) }
+    ensures { (input : List ℕ) (entry : ℕ) (segments : List Segment) → entry < 2 ^ 32 → entry % 4 ≡ 0 →
+        All (λ s. All (λ b. b < 256) s.bytes) segments → IsState input (start entry segments) }
 {}

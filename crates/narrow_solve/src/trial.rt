@@ -61,7 +61,8 @@ pub(crate) fn first_pair(
     requires apart { low < high }
     requires within { high < length trial.old }
     requires masked { high < length mask.now }
-    ensures first { MatchOption result (NoPairAt (holds (trees_of arena.now conditions.now)) trial.old low high) (λ pair. IsFirstPair (holds (trees_of arena.now conditions.now)) (slice_index mask.now low) (slice_index mask.now high) trial.old low high pair.0 pair.1) }
+    ensures first { MatchOption result (NoPairAt (holds (trees_of arena.now conditions.now)) trial.old low high) (λ pair.
+        IsFirstPair (holds (trees_of arena.now conditions.now)) (slice_index mask.now low) (slice_index mask.now high) trial.old low high pair.0 pair.1) }
     ensures bytes { IfSome result (λ pair. (pair.0 < 256) × (pair.1 < 256)) }
     ensures keeps { scratch.new ≡ scratch.old }
 {
@@ -122,7 +123,8 @@ fn holds_with_each(
     requires room { length arena.now ≤ scratch.old }
     requires reads { All (λ t. ReadsBelow (length trial.old) (tree_of arena.now t)) conditions.now }
     requires within { place < length trial.old }
-    ensures each { result ≡ list_all (λ v. holds (trees_of arena.now conditions.now) (slice_set trial.old place v)) (filter (has values.now) bytes) }
+    ensures each { result ≡ list_all (λ v. holds (trees_of arena.now conditions.now) (slice_set trial.old place v))
+        (filter (has values.now) bytes) }
     ensures aside { (v : ℕ) → slice_set trial.new place v ≡ slice_set trial.old place v }
     ensures keeps { scratch.new ≡ scratch.old }
 {
@@ -156,7 +158,8 @@ pub(crate) fn values_beside(
     requires apart { low < high }
     requires within { high < length trial.old }
     requires passes { IsTrue (freed_beside (holds (trees_of arena.now conditions.now)) (has lower.now) trial.old low high known) }
-    ensures values { has result ≡ freed_beside (holds (trees_of arena.now conditions.now)) (has lower.now) trial.old low high }
+    ensures values { has result
+        ≡ freed_beside (holds (trees_of arena.now conditions.now)) (has lower.now) trial.old low high }
     ensures keeps { scratch.new ≡ scratch.old }
 {
     let mut values = ByteSet::one(known);

@@ -127,7 +127,8 @@ pub fn rules_lower_the_weight()
 /// operation itself where none fits. Nothing else is so.
 pub fn normal_form_follows_the_table()
     ensures follows { FollowsTable norm }
-    ensures only { (made : Op → Tree → Tree → Tree) → FollowsTable made → (op : Op) (a b : Tree) → made op a b ≡ norm op a b }
+    ensures only { (made : Op → Tree → Tree → Tree) → FollowsTable made → (op : Op) (a b : Tree) →
+        made op a b ≡ norm op a b }
 {}
 
 /// The normal form of normal operands is normal.
@@ -137,7 +138,8 @@ pub fn normal_form_is_normal()
 
 /// The normal form of normal operands has the value of the operation.
 pub fn normal_form_keeps_the_value()
-    ensures { (op : Op) (a b : Tree) (input : List ℕ) → AreNormalOperands op a b input → val (norm op a b) input ≡ op_value op (val a input) (val b input) }
+    ensures { (op : Op) (a b : Tree) (input : List ℕ) → AreNormalOperands op a b input →
+        val (norm op a b) input ≡ op_value op (val a input) (val b input) }
 {}
 
 /// A normal term that reads no input is a constant.

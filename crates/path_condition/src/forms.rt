@@ -85,7 +85,8 @@ pub(crate) fn equal(arena: &mut Arena, a: Term, b: Term) -> Result<[Term; 4], Al
     requires normal_first { IsNormal (tree_of arena.old a) }
     requires normal_second { IsNormal (tree_of arena.old b) }
     ensures belong { IfOk result (Belong arena.new) }
-    ensures trees { IfOk result (λ ts. trees_of arena.new ts ≡ shape.equal norm (tree_of arena.old a) (tree_of arena.old b)) }
+    ensures trees { IfOk result (λ ts.
+        trees_of arena.new ts ≡ shape.equal norm (tree_of arena.old a) (tree_of arena.old b)) }
     ensures keeps { Extends arena.old arena.new }
 {
     let lowest = same_byte(arena, a, b, 0)?;
@@ -172,7 +173,8 @@ pub(crate) fn without_constants(arena: &Arena, t: Term, value: u32) -> Sum
     requires normal { IsNormal (tree_of arena.now t) }
     ensures belongs { result.term < length arena.now }
     ensures normal { IsNormal (tree_of arena.now result.term) }
-    ensures pin { shape.bytes_are norm (tree_of arena.now result.term) result.word ≡ shape.pin norm (tree_of arena.now t) value }
+    ensures pin { shape.bytes_are norm (tree_of arena.now result.term) result.word
+        ≡ shape.pin norm (tree_of arena.now t) value }
 {
     let mut term = t;
     let mut word = value;
@@ -189,7 +191,8 @@ pub(crate) fn without_even_constants(arena: &Arena, sum: Term, target: u32) -> S
     requires normal { IsNormal (tree_of arena.now sum) }
     ensures belongs { result.term < length arena.now }
     ensures normal { IsNormal (tree_of arena.now result.term) }
-    ensures target { shape.target_bytes norm (tree_of arena.now result.term) result.word ≡ shape.target norm (tree_of arena.now sum) target }
+    ensures target { shape.target_bytes norm (tree_of arena.now result.term) result.word
+        ≡ shape.target norm (tree_of arena.now sum) target }
 {
     let mut term = sum;
     let mut word = target;

@@ -101,7 +101,8 @@ impl Conditions {
     fn has_no_need_of(&self, arena: &Arena, t: Term) -> bool
         requires listed { Belong arena.now self.now }
         requires belongs { t < length arena.now }
-        ensures value { result ≡ (same_tree (tree_of arena.now t) (Const 1) || list_any (same_tree (tree_of arena.now t)) (trees_of arena.now self.now)) }
+        ensures value { result
+            ≡ (same_tree (tree_of arena.now t) (Const 1) || list_any (same_tree (tree_of arena.now t)) (trees_of arena.now self.now)) }
         ensures absent { result ≡ false → is_listed self.now t ≡ false }
     {
         are_shared(arena);
@@ -113,7 +114,8 @@ impl Conditions {
     fn add(&mut self, arena: &Arena, t: Term) -> Result<(), AllocError>
         requires listed { Belong arena.now self.old }
         requires belongs { t < length arena.now }
-        ensures trees { OnOk result (trees_of arena.now self.new ≡ with_condition (trees_of arena.now self.old) (tree_of arena.now t)) }
+        ensures trees { OnOk result (trees_of arena.now self.new
+            ≡ with_condition (trees_of arena.now self.old) (tree_of arena.now t)) }
         ensures first { take (length self.old) self.new ≡ self.old }
         ensures listed { Belong arena.now self.new }
         ensures err { OnErr result (self.new ≡ self.old) }
@@ -128,7 +130,8 @@ impl Conditions {
     fn add_all(&mut self, arena: &Arena, terms: &[Term]) -> Result<(), AllocError>
         requires listed { Belong arena.now self.old }
         requires belong { Belong arena.now terms.now }
-        ensures trees { OnOk result (trees_of arena.now self.new ≡ with_conditions (trees_of arena.now self.old) (trees_of arena.now terms.now)) }
+        ensures trees { OnOk result (trees_of arena.now self.new
+            ≡ with_conditions (trees_of arena.now self.old) (trees_of arena.now terms.now)) }
         ensures listed { Belong arena.now self.new }
         ensures err { OnErr result (self.new ≡ self.old) }
     {
@@ -149,8 +152,10 @@ impl Conditions {
     pub fn add_holds(&mut self, arena: &Arena, t: Term) -> Result<(), AllocError>
         requires listed { Belong arena.now self.old }
         requires belongs { t < length arena.now }
-        ensures trees { OnOk result (trees_of arena.now self.new ≡ with_conditions (trees_of arena.now self.old) (succeeds (tree_of arena.now t))) }
-        ensures meaning { OnOk result ((y : List ℕ) → Hold (trees_of arena.now self.new) y ↔ (Hold (trees_of arena.now self.old) y × (val (tree_of arena.now t) y ≡ 1))) }
+        ensures trees { OnOk result (trees_of arena.now self.new
+            ≡ with_conditions (trees_of arena.now self.old) (succeeds (tree_of arena.now t))) }
+        ensures meaning { OnOk result ((y : List ℕ) → Hold (trees_of arena.now self.new) y
+            ↔ (Hold (trees_of arena.now self.old) y × (val (tree_of arena.now t) y ≡ 1))) }
         ensures listed { Belong arena.now self.new }
         ensures err { OnErr result (self.new ≡ self.old) }
     {
@@ -165,8 +170,10 @@ impl Conditions {
         requires second { b < length arena.old }
         requires normal_first { IsNormal (tree_of arena.old a) }
         requires normal_second { IsNormal (tree_of arena.old b) }
-        ensures trees { OnOk result (trees_of arena.new self.new ≡ with_conditions (trees_of arena.old self.old) (equal norm (tree_of arena.old a) (tree_of arena.old b))) }
-        ensures meaning { OnOk result ((y : List ℕ) → AreBytes y → Hold (trees_of arena.new self.new) y ↔ (Hold (trees_of arena.old self.old) y × (val (tree_of arena.old a) y ≡ val (tree_of arena.old b) y))) }
+        ensures trees { OnOk result (trees_of arena.new self.new
+            ≡ with_conditions (trees_of arena.old self.old) (equal norm (tree_of arena.old a) (tree_of arena.old b))) }
+        ensures meaning { OnOk result ((y : List ℕ) → AreBytes y → Hold (trees_of arena.new self.new) y
+            ↔ (Hold (trees_of arena.old self.old) y × (val (tree_of arena.old a) y ≡ val (tree_of arena.old b) y))) }
         ensures listed { Belong arena.new self.new }
         ensures keeps { Extends arena.old arena.new }
         ensures err { OnErr result (self.new ≡ self.old) }
@@ -182,8 +189,10 @@ impl Conditions {
         requires listed { Belong arena.old self.old }
         requires belongs { t < length arena.old }
         requires normal { IsNormal (tree_of arena.old t) }
-        ensures trees { OnOk result (trees_of arena.new self.new ≡ with_conditions (trees_of arena.old self.old) (pin norm (tree_of arena.old t) value)) }
-        ensures meaning { OnOk result ((y : List ℕ) → AreBytes y → Hold (trees_of arena.new self.new) y ↔ (Hold (trees_of arena.old self.old) y × (val (tree_of arena.old t) y ≡ value))) }
+        ensures trees { OnOk result (trees_of arena.new self.new
+            ≡ with_conditions (trees_of arena.old self.old) (pin norm (tree_of arena.old t) value)) }
+        ensures meaning { OnOk result ((y : List ℕ) → AreBytes y → Hold (trees_of arena.new self.new) y
+            ↔ (Hold (trees_of arena.old self.old) y × (val (tree_of arena.old t) y ≡ value))) }
         ensures listed { Belong arena.new self.new }
         ensures keeps { Extends arena.old arena.new }
         ensures err { OnErr result (self.new ≡ self.old) }
@@ -206,8 +215,10 @@ impl Conditions {
         requires listed { Belong arena.old self.old }
         requires belongs { sum < length arena.old }
         requires normal { IsNormal (tree_of arena.old sum) }
-        ensures trees { OnOk result (trees_of arena.new self.new ≡ with_conditions (trees_of arena.old self.old) (jump_target norm (tree_of arena.old sum) target)) }
-        ensures meaning { OnOk result (target % 2 ≡ 0 → (y : List ℕ) → AreBytes y → Hold (trees_of arena.new self.new) y ↔ (Hold (trees_of arena.old self.old) y × (even (val (tree_of arena.old sum) y) ≡ target))) }
+        ensures trees { OnOk result (trees_of arena.new self.new
+            ≡ with_conditions (trees_of arena.old self.old) (jump_target norm (tree_of arena.old sum) target)) }
+        ensures meaning { OnOk result (target % 2 ≡ 0 → (y : List ℕ) → AreBytes y → Hold (trees_of arena.new self.new) y
+            ↔ (Hold (trees_of arena.old self.old) y × (even (val (tree_of arena.old sum) y) ≡ target))) }
         ensures listed { Belong arena.new self.new }
         ensures keeps { Extends arena.old arena.new }
         ensures err { OnErr result (self.new ≡ self.old) }

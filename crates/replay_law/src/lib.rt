@@ -25,7 +25,10 @@ use term_model::same_trees_are_equal;
 
 /// The conditions of a run that a trap ends hold of exactly the inputs of its length that have this run.
 pub fn conditions_hold_of_the_class()
-    ensures class { (made : Making) (is_made : Tree → Bool) → IsMaker made (λ t. is_made t ≡ true) → (program : Program) (limit : ℕ) (x y : List ℕ) (run : runs.Transcript) → IsProgram program → IsCrash program limit x run → IsInput run.n y → Hold (conditions made program run) y ↔ IsTrue (in_class program limit run y) }
+    ensures class { (made : Making) (is_made : Tree → Bool) → IsMaker made (λ t. is_made t ≡ true) →
+        (program : Program) (limit : ℕ) (x y : List ℕ) (run : runs.Transcript) →
+        IsProgram program → IsCrash program limit x run → IsInput run.n y →
+        Hold (conditions made program run) y ↔ IsTrue (in_class program limit run y) }
 {
     same_trees_are_equal();
     same_transcripts_are_equal();
@@ -33,7 +36,11 @@ pub fn conditions_hold_of_the_class()
 
 /// Each condition of a run that a trap ends is a truth term that reads some byte of the input, and only such bytes.
 pub fn conditions_are_proper()
-    ensures proper { (made : Making) (is_made : Tree → Bool) → IsMaker made (λ t. is_made t ≡ true) → IsCarefulMaker made (λ t. is_made t ≡ true) → (program : Program) (limit : ℕ) (x : List ℕ) (run : runs.Transcript) → IsProgram program → IsCrash program limit x run → AreProper run.n (conditions made program run) }
+    ensures proper { (made : Making) (is_made : Tree → Bool) → IsMaker made (λ t. is_made t ≡ true) →
+        IsCarefulMaker made (λ t. is_made t ≡ true) →
+        (program : Program) (limit : ℕ) (x : List ℕ) (run : runs.Transcript) →
+        IsProgram program → IsCrash program limit x run →
+        AreProper run.n (conditions made program run) }
 {
     same_trees_are_equal();
     same_transcripts_are_equal();

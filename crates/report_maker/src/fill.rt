@@ -34,7 +34,8 @@ fn put_sets(places: &[u32], values: [ByteSet; 2], sets: &mut [ByteSet])
     requires some { 0 < length places.now }
     requires narrow { length places.now ≤ 2 }
     requires within { All (λ i. i < length sets.old) places.now }
-    ensures has { (k : ℕ) → k < length places.now → set_at (map has sets.new) (slice_index places.now k) ≡ set_at (map has values) k }
+    ensures has { (k : ℕ) → k < length places.now →
+        set_at (map has sets.new) (slice_index places.now k) ≡ set_at (map has values) k }
     ensures left { (i : ℕ) → (Contains places.now i → ⊥) → set_at (map has sets.new) i ≡ set_at (map has sets.old) i }
 {
     sets[places[0] as usize] = values[0];
@@ -59,8 +60,10 @@ fn fill_group(
     requires tried { length trial.old ≡ length mask.now }
     requires room { length arena.now ≤ scratch.old }
     ensures done { IsDone arena.now mask.now input.new (map has sets.new) group.now }
-    ensures input_left { (i : ℕ) → (Contains group.now.places i → ⊥) → slice_index input.new i ≡ slice_index input.old i }
-    ensures sets_left { (i : ℕ) → (Contains group.now.places i → ⊥) → set_at (map has sets.new) i ≡ set_at (map has sets.old) i }
+    ensures input_left { (i : ℕ) → (Contains group.now.places i → ⊥) →
+        slice_index input.new i ≡ slice_index input.old i }
+    ensures sets_left { (i : ℕ) → (Contains group.now.places i → ⊥) →
+        set_at (map has sets.new) i ≡ set_at (map has sets.old) i }
     ensures keeps { scratch.new ≡ scratch.old }
 {
     let first = first_narrow(arena, group, mask, trial, scratch);
@@ -102,7 +105,8 @@ pub fn fill_all(
 ) -> Result<(Vec<u8>, Vec<ByteSet>), AllocError>
     requires narrow { All (IsNarrow arena.now (length mask.now)) groups.now }
     requires apart { AreApart groups.now }
-    ensures filled { IfOk result (λ made. IsFilled arena.now mask.now groups.now (length groups.now) made.0.items (map has made.1.items)) }
+    ensures filled { IfOk result (λ made.
+        IsFilled arena.now mask.now groups.now (length groups.now) made.0.items (map has made.1.items)) }
     ensures input { IfOk result (λ made. IsInput (length mask.now) made.0.items) }
 {
     let mut input = mask.to_vec(alloc)?;

@@ -50,7 +50,8 @@ fn divide(
 ) -> Result<GroupList, AllocError>
     requires program { IsProgram (program_of image.now) }
     requires traced { (limit : ℕ) × (x : List ℕ) × IsCrash (program_of image.now) limit x transcript.now }
-    ensures { IfOk result (λ groups. AreDivided arena.new (conditions_of (program_of image.now) transcript.now) transcript.now.n groups) }
+    ensures { IfOk result (λ groups.
+        AreDivided arena.new (conditions_of (program_of image.now) transcript.now) transcript.now.n groups) }
 {
     let conditions = replay(alloc, image, transcript, arena)?;
     groups(alloc, arena, conditions.list())

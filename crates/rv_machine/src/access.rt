@@ -39,7 +39,8 @@ fn byte(memory: &Memory, address: u32) -> Result<u8, u32>
 
 /// The value of a load, or the address of the first byte that may not be read.
 pub fn loaded(memory: &Memory, width: Width, address: u32) -> Result<u32, u32>
-    ensures { result ≡ ok_unless (first_without read memory.now address (size_of width)) (loaded memory.now width address) }
+    ensures { result
+        ≡ ok_unless (first_without read memory.now address (size_of width)) (loaded memory.now width address) }
 {
     match width {
         Width::B => Ok(sign_extended(8, u32::from(byte(memory, address)?)).cast_unsigned()),

@@ -207,7 +207,8 @@ impl Machine {
 
     /// The event of a call.
     fn call_event(&self, word: u32) -> Event
-        ensures { result ≡ event_of self.now.state word 0 (reg self.now.state 17 ∷ reg self.now.state 10 ∷ reg self.now.state 11 ∷ reg self.now.state 12 ∷ []) EventKind.Call }
+        ensures { result
+            ≡ event_of self.now.state word 0 (reg self.now.state 17 ∷ reg self.now.state 10 ∷ reg self.now.state 11 ∷ reg self.now.state 12 ∷ []) EventKind.Call }
     {
         let call = [self.read(17), self.read(10), self.read(11), self.read(12)];
         Event {
@@ -251,7 +252,8 @@ impl Machine {
     /// The bytes that a read would give.
     fn next_bytes<'a>(&self, input: &'a [u8]) -> &'a [u8]
         requires { self.now.state.place ≤ length input.now }
-        ensures bytes { result.now ≡ input_bytes input.now self.now.state.place (min (reg self.now.state 12) (length input.now - self.now.state.place)) }
+        ensures bytes { result.now
+            ≡ input_bytes input.now self.now.state.place (min (reg self.now.state 12) (length input.now - self.now.state.place)) }
         ensures count { length result.now ≡ min (reg self.now.state 12) (length input.now - self.now.state.place) }
     {
         let rest = &input[self.place as usize..];
@@ -286,7 +288,8 @@ impl Machine {
 
     /// The call write, which discards its bytes.
     fn write_call(&mut self) -> Option<End>
-        ensures { (input : List ℕ) → Follows self.old (after_call input self.old.state (write_reply self.old.state.memory (reg self.old.state 10) (reg self.old.state 11) (reg self.old.state 12))) result self.new }
+        ensures { (input : List ℕ) →
+            Follows self.old (after_call input self.old.state (write_reply self.old.state.memory (reg self.old.state 10) (reg self.old.state 11) (reg self.old.state 12))) result self.new }
     {
         let descriptor = self.read(10);
         if descriptor != 1 && descriptor != 2 {

@@ -148,7 +148,8 @@ fn or_with_all_ones(arena: &Arena, op: Op, a: Term, b: Term) -> Option<Written>
 pub(crate) fn arithmetic_rules(arena: &Arena, op: Op, a: Term, b: Term) -> Option<Written>
     requires first { a < length arena.now }
     requires second { b < length arena.now }
-    ensures rule { planned arena.now result ≡ first_fit arithmetic_rules op (tree_of arena.now a) (tree_of arena.now b) }
+    ensures rule { planned arena.now result
+        ≡ first_fit arithmetic_rules op (tree_of arena.now a) (tree_of arena.now b) }
     ensures below { AreBelow (length arena.now) result }
 {
     drop_zero(arena, op, a, b)

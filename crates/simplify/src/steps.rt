@@ -79,7 +79,8 @@ fn equality(arena: &mut Arena, a: Term, b: Term) -> Result<Term, AllocError>
 fn is_not_zero(arena: &mut Arena, t: Term) -> Result<Term, AllocError>
     requires { t < length arena.old }
     ensures below { IfOk result (λ made. made < length arena.new) }
-    ensures tree { IfOk result (λ made. tree_of arena.new made ≡ norm Eq (norm Eq (tree_of arena.old t) (Const 0)) (Const 0)) }
+    ensures tree { IfOk result (λ made.
+        tree_of arena.new made ≡ norm Eq (norm Eq (tree_of arena.old t) (Const 0)) (Const 0)) }
     ensures keeps { Extends arena.old arena.new }
     ensures grows { length arena.old ≤ length arena.new }
 {

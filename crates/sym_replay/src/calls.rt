@@ -59,7 +59,8 @@ fn write_reply(memory: &Memory, descriptor: u32, address: u32, size: u32) -> Rep
 #[tactic(auto, unfolding(rv_machine::specs::Calls::reply_to))]
 pub(crate) fn reply_to(memory: &Memory, left: u32, call: [u32; 4]) -> Reply
     ensures most { moved result ≤ left }
-    ensures reply { reply_of result ≡ reply_of_call memory.now left (slice_index call 0) (slice_index call 1) (slice_index call 2) (slice_index call 3) }
+    ensures reply { reply_of result
+        ≡ reply_of_call memory.now left (slice_index call 0) (slice_index call 1) (slice_index call 2) (slice_index call 3) }
 {
     match call[0] {
         63 => read_reply(memory, left, call[1], call[2], call[3]),

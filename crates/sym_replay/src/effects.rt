@@ -107,7 +107,9 @@ impl State {
         requires term { IsTermIn arena.old t }
         requires byte { k < 4 }
         ensures state { OnOk result (IsState arena.new self.new) }
-        ensures terms { (image : Map) → OnOk result (terms_of arena.new image self.new ≡ record (terms_of arena.old image self.old) { bytes = with_tree (terms_of arena.old image self.old).bytes address (byte_of_term norm k (tree_of arena.old t)) }) }
+        ensures terms { (image : Map) →
+            OnOk result (terms_of arena.new image self.new
+                ≡ record (terms_of arena.old image self.old) { bytes = with_tree (terms_of arena.old image self.old).bytes address (byte_of_term norm k (tree_of arena.old t)) }) }
         ensures place { self.new.place ≡ self.old.place }
         ensures keeps { Extends arena.old arena.new }
     {
@@ -121,7 +123,9 @@ impl State {
         requires state { IsState arena.old self.old }
         requires term { IsTermIn arena.old t }
         ensures state { OnOk result (IsState arena.new self.new) }
-        ensures terms { (image : Map) → OnOk result (terms_of arena.new image self.new ≡ record (terms_of arena.old image self.old) { bytes = put_trees (terms_of arena.old image self.old).bytes address (definitions.stored_terms norm Width.H (tree_of arena.old t)) }) }
+        ensures terms { (image : Map) →
+            OnOk result (terms_of arena.new image self.new
+                ≡ record (terms_of arena.old image self.old) { bytes = put_trees (terms_of arena.old image self.old).bytes address (definitions.stored_terms norm Width.H (tree_of arena.old t)) }) }
         ensures place { self.new.place ≡ self.old.place }
         ensures keeps { Extends arena.old arena.new }
     {
@@ -135,7 +139,9 @@ impl State {
         requires state { IsState arena.old self.old }
         requires term { IsTermIn arena.old t }
         ensures state { OnOk result (IsState arena.new self.new) }
-        ensures terms { (image : Map) → OnOk result (terms_of arena.new image self.new ≡ record (terms_of arena.old image self.old) { bytes = put_trees (terms_of arena.old image self.old).bytes address (definitions.stored_terms norm Width.W (tree_of arena.old t)) }) }
+        ensures terms { (image : Map) →
+            OnOk result (terms_of arena.new image self.new
+                ≡ record (terms_of arena.old image self.old) { bytes = put_trees (terms_of arena.old image self.old).bytes address (definitions.stored_terms norm Width.W (tree_of arena.old t)) }) }
         ensures place { self.new.place ≡ self.old.place }
         ensures keeps { Extends arena.old arena.new }
     {
@@ -157,7 +163,9 @@ impl State {
         requires state { IsState arena.old self.old }
         requires term { IsTermIn arena.old t }
         ensures state { OnOk result (IsState arena.new self.new) }
-        ensures terms { (image : Map) → OnOk result (terms_of arena.new image self.new ≡ record (terms_of arena.old image self.old) { bytes = put_trees (terms_of arena.old image self.old).bytes address (definitions.stored_terms norm width (tree_of arena.old t)) }) }
+        ensures terms { (image : Map) →
+            OnOk result (terms_of arena.new image self.new
+                ≡ record (terms_of arena.old image self.old) { bytes = put_trees (terms_of arena.old image self.old).bytes address (definitions.stored_terms norm width (tree_of arena.old t)) }) }
         ensures place { self.new.place ≡ self.old.place }
         ensures keeps { Extends arena.old arena.new }
     {
@@ -178,7 +186,9 @@ impl State {
         requires state { IsState arena.old self.old }
         requires fits { self.old.place + count < 2 ^ 32 }
         ensures state { OnOk result (IsState arena.new self.new) }
-        ensures terms { (image : Map) → OnOk result (terms_of arena.new image self.new ≡ record (terms_of arena.old image self.old) { bytes = put_trees (terms_of arena.old image self.old).bytes address (definitions.input_terms self.old.place count); place = self.old.place + count }) }
+        ensures terms { (image : Map) →
+            OnOk result (terms_of arena.new image self.new
+                ≡ record (terms_of arena.old image self.old) { bytes = put_trees (terms_of arena.old image self.old).bytes address (definitions.input_terms self.old.place count); place = self.old.place + count }) }
         ensures place { OnOk result (self.new.place ≡ self.old.place + count) }
         ensures keeps { Extends arena.old arena.new }
     {
@@ -219,7 +229,9 @@ impl State {
         requires state { IsState arena.old self.old }
         requires register { register < 32 }
         ensures state { OnOk result (IsState arena.new self.new) }
-        ensures terms { (image : Map) → OnOk result (terms_of arena.new image self.new ≡ put_reg register (Const value) (terms_of arena.old image self.old)) }
+        ensures terms { (image : Map) →
+            OnOk result (terms_of arena.new image self.new
+                ≡ put_reg register (Const value) (terms_of arena.old image self.old)) }
         ensures place { self.new.place ≡ self.old.place }
         ensures keeps { Extends arena.old arena.new }
     {
@@ -242,7 +254,9 @@ impl State {
         requires first { IsTermIn arena.old a }
         requires second { IsTermIn arena.old b }
         ensures state { OnOk result (IsState arena.new self.new) }
-        ensures terms { (image : Map) → OnOk result (terms_of arena.new image self.new ≡ put_reg register (norm (Alu op) (tree_of arena.old a) (tree_of arena.old b)) (terms_of arena.old image self.old)) }
+        ensures terms { (image : Map) →
+            OnOk result (terms_of arena.new image self.new
+                ≡ put_reg register (norm (Alu op) (tree_of arena.old a) (tree_of arena.old b)) (terms_of arena.old image self.old)) }
         ensures place { self.new.place ≡ self.old.place }
         ensures keeps { Extends arena.old arena.new }
     {
@@ -264,7 +278,9 @@ impl State {
         requires register { register < 32 }
         requires first { first < 32 }
         ensures state { OnOk result (IsState arena.new self.new) }
-        ensures terms { (image : Map) → OnOk result (terms_of arena.new image self.new ≡ put_reg register (norm (Alu op) (register_tree arena.old self.old first) (Const immediate)) (terms_of arena.old image self.old)) }
+        ensures terms { (image : Map) →
+            OnOk result (terms_of arena.new image self.new
+                ≡ put_reg register (norm (Alu op) (register_tree arena.old self.old first) (Const immediate)) (terms_of arena.old image self.old)) }
         ensures place { self.new.place ≡ self.old.place }
         ensures keeps { Extends arena.old arena.new }
     {
@@ -285,7 +301,8 @@ impl State {
         requires state { IsState arena.old self.old }
         requires register { register < 32 }
         ensures state { OnOk result (IsState arena.new self.new) }
-        ensures terms { OnOk result (terms_of arena.new (start_map image.now.segments) self.new ≡ put_reg register (definitions.loaded_term norm (terms_of arena.old (start_map image.now.segments) self.old).bytes width address) (terms_of arena.old (start_map image.now.segments) self.old)) }
+        ensures terms { OnOk result (terms_of arena.new (start_map image.now.segments) self.new
+            ≡ put_reg register (definitions.loaded_term norm (terms_of arena.old (start_map image.now.segments) self.old).bytes width address) (terms_of arena.old (start_map image.now.segments) self.old)) }
         ensures place { self.new.place ≡ self.old.place }
         ensures keeps { Extends arena.old arena.new }
     {
@@ -299,7 +316,9 @@ impl State {
         requires state { IsState arena.old self.old }
         requires fits { self.old.place + moved reply < 2 ^ 32 }
         ensures state { OnOk result (IsState arena.new self.new) }
-        ensures terms { (image : Map) → OnOk result (terms_of arena.new image self.new ≡ definitions.after_reply (terms_of arena.old image self.old) event.now (reply_of reply)) }
+        ensures terms { (image : Map) →
+            OnOk result (terms_of arena.new image self.new
+                ≡ definitions.after_reply (terms_of arena.old image self.old) event.now (reply_of reply)) }
         ensures place { OnOk result (self.new.place ≡ self.old.place + moved reply) }
         ensures keeps { Extends arena.old arena.new }
     {
@@ -324,7 +343,9 @@ impl State {
         requires state { IsState arena.old self.old }
         requires place { self.old.place ≤ n }
         ensures state { OnOk result (IsState arena.new self.new) }
-        ensures terms { (image : Map) → OnOk result (terms_of arena.new image self.new ≡ definitions.after_row norm memory.now n (terms_of arena.old image self.old) event.now Instr.Ecall) }
+        ensures terms { (image : Map) →
+            OnOk result (terms_of arena.new image self.new
+                ≡ definitions.after_row norm memory.now n (terms_of arena.old image self.old) event.now Instr.Ecall) }
         ensures place { OnOk result (self.new.place ≤ n) }
         ensures keeps { Extends arena.old arena.new }
     {
@@ -347,7 +368,8 @@ impl State {
         requires memory { memory.now ≡ start_map image.now.segments }
         requires place { self.old.place ≤ n }
         ensures state { OnOk result (IsState arena.new self.new) }
-        ensures terms { OnOk result (terms_of arena.new (start_map image.now.segments) self.new ≡ definitions.after_row norm (start_map image.now.segments) n (terms_of arena.old (start_map image.now.segments) self.old) event.now instr) }
+        ensures terms { OnOk result (terms_of arena.new (start_map image.now.segments) self.new
+            ≡ definitions.after_row norm (start_map image.now.segments) n (terms_of arena.old (start_map image.now.segments) self.old) event.now instr) }
         ensures place { OnOk result (self.new.place ≤ n) }
         ensures keeps { Extends arena.old arena.new }
     {
@@ -406,7 +428,8 @@ impl State {
         requires memory { memory.now ≡ start_map image.now.segments }
         requires place { self.old.place ≤ n }
         ensures state { OnOk result (IsState arena.new self.new) }
-        ensures terms { OnOk result (terms_of arena.new (start_map image.now.segments) self.new ≡ definitions.terms_after norm (start_map image.now.segments) n (terms_of arena.old (start_map image.now.segments) self.old) event.now) }
+        ensures terms { OnOk result (terms_of arena.new (start_map image.now.segments) self.new
+            ≡ definitions.terms_after norm (start_map image.now.segments) n (terms_of arena.old (start_map image.now.segments) self.old) event.now) }
         ensures place { OnOk result (self.new.place ≤ n) }
         ensures keeps { Extends arena.old arena.new }
     {

@@ -36,7 +36,8 @@ use term_arena::{Arena, Op, Term};
 fn add_fails(conditions: &mut Conditions, arena: &mut Arena, t: Term) -> Result<(), AllocError>
     requires listed { Belong arena.old conditions.old }
     requires term { IsTermIn arena.old t }
-    ensures trees { OnOk result (trees_of arena.new conditions.new ≡ with_conditions (trees_of arena.old conditions.old) (forms.fails norm (tree_of arena.old t))) }
+    ensures trees { OnOk result (trees_of arena.new conditions.new
+        ≡ with_conditions (trees_of arena.old conditions.old) (forms.fails norm (tree_of arena.old t))) }
     ensures listed { Belong arena.new conditions.new }
     ensures keeps { Extends arena.old arena.new }
 {
@@ -58,7 +59,8 @@ fn add_comparison(
     requires first { IsTermIn arena.old a }
     requires second { IsTermIn arena.old b }
     requires comparison { TakesByteNumber op (tree_of arena.old b) }
-    ensures trees { OnOk result (trees_of arena.new conditions.new ≡ with_conditions (trees_of arena.old conditions.old) (if holds then forms.succeeds (norm op (tree_of arena.old a) (tree_of arena.old b)) else forms.fails norm (norm op (tree_of arena.old a) (tree_of arena.old b)))) }
+    ensures trees { OnOk result (trees_of arena.new conditions.new
+        ≡ with_conditions (trees_of arena.old conditions.old) (if holds then forms.succeeds (norm op (tree_of arena.old a) (tree_of arena.old b)) else forms.fails norm (norm op (tree_of arena.old a) (tree_of arena.old b)))) }
     ensures listed { Belong arena.new conditions.new }
     ensures keeps { Extends arena.old arena.new }
 {
@@ -82,7 +84,8 @@ fn add_outcome(
     requires listed { Belong arena.old conditions.old }
     requires first { IsTermIn arena.old a }
     requires second { IsTermIn arena.old b }
-    ensures trees { OnOk result (trees_of arena.new conditions.new ≡ with_conditions (trees_of arena.old conditions.old) (outcome norm cond (tree_of arena.old a) (tree_of arena.old b) taken)) }
+    ensures trees { OnOk result (trees_of arena.new conditions.new
+        ≡ with_conditions (trees_of arena.old conditions.old) (outcome norm cond (tree_of arena.old a) (tree_of arena.old b) taken)) }
     ensures listed { Belong arena.new conditions.new }
     ensures keeps { Extends arena.old arena.new }
 {
@@ -109,7 +112,8 @@ fn add_fetched_byte(
     requires listed { Belong arena.old conditions.old }
     requires state { IsState arena.old state.now }
     requires byte { k < 4 }
-    ensures trees { OnOk result (trees_of arena.new conditions.new ≡ with_conditions (trees_of arena.old conditions.old) (forms.succeeds (fetched_byte norm (terms_of arena.old (start_map image.now.segments) state.now) address word k))) }
+    ensures trees { OnOk result (trees_of arena.new conditions.new
+        ≡ with_conditions (trees_of arena.old conditions.old) (forms.succeeds (fetched_byte norm (terms_of arena.old (start_map image.now.segments) state.now) address word k))) }
     ensures listed { Belong arena.new conditions.new }
     ensures keeps { Extends arena.old arena.new }
 {
@@ -131,7 +135,8 @@ fn add_fetch(
 ) -> Result<(), AllocError>
     requires listed { Belong arena.old conditions.old }
     requires state { IsState arena.old state.now }
-    ensures trees { OnOk result (trees_of arena.new conditions.new ≡ with_conditions (trees_of arena.old conditions.old) (fetch_conditions norm (terms_of arena.old (start_map image.now.segments) state.now) address word)) }
+    ensures trees { OnOk result (trees_of arena.new conditions.new
+        ≡ with_conditions (trees_of arena.old conditions.old) (fetch_conditions norm (terms_of arena.old (start_map image.now.segments) state.now) address word)) }
     ensures listed { Belong arena.new conditions.new }
     ensures keeps { Extends arena.old arena.new }
 {
@@ -155,7 +160,8 @@ fn add_register(
     requires listed { Belong arena.old conditions.old }
     requires state { IsState arena.old state.now }
     requires register { register < 32 }
-    ensures trees { OnOk result (trees_of arena.new conditions.new ≡ with_conditions (trees_of arena.old conditions.old) (forms.pin norm (register_tree arena.old state.now register) value)) }
+    ensures trees { OnOk result (trees_of arena.new conditions.new
+        ≡ with_conditions (trees_of arena.old conditions.old) (forms.pin norm (register_tree arena.old state.now register) value)) }
     ensures listed { Belong arena.new conditions.new }
     ensures keeps { Extends arena.old arena.new }
 {
@@ -173,7 +179,9 @@ fn add_call(
 ) -> Result<(), AllocError>
     requires listed { Belong arena.old conditions.old }
     requires state { IsState arena.old state.now }
-    ensures trees { (image : Map) → OnOk result (trees_of arena.new conditions.new ≡ with_conditions (trees_of arena.old conditions.old) (call_conditions (terms_of arena.old image state.now) call)) }
+    ensures trees { (image : Map) →
+        OnOk result (trees_of arena.new conditions.new
+            ≡ with_conditions (trees_of arena.old conditions.old) (call_conditions (terms_of arena.old image state.now) call)) }
     ensures listed { Belong arena.new conditions.new }
     ensures keeps { Extends arena.old arena.new }
 {
@@ -197,7 +205,8 @@ fn add_branch(
     requires listed { Belong arena.old conditions.old }
     requires first { IsTermIn arena.old a }
     requires second { IsTermIn arena.old b }
-    ensures trees { OnOk result (trees_of arena.new conditions.new ≡ with_conditions (trees_of arena.old conditions.old) (if target == next then [] else outcome norm cond (tree_of arena.old a) (tree_of arena.old b) (shown == target))) }
+    ensures trees { OnOk result (trees_of arena.new conditions.new
+        ≡ with_conditions (trees_of arena.old conditions.old) (if target == next then [] else outcome norm cond (tree_of arena.old a) (tree_of arena.old b) (shown == target))) }
     ensures listed { Belong arena.new conditions.new }
     ensures keeps { Extends arena.old arena.new }
 {
@@ -219,7 +228,8 @@ fn add_address(
     requires listed { Belong arena.old conditions.old }
     requires state { IsState arena.old state.now }
     requires register { register < 32 }
-    ensures trees { OnOk result (trees_of arena.new conditions.new ≡ with_conditions (trees_of arena.old conditions.old) (forms.pin norm (norm (Alu Add) (register_tree arena.old state.now register) (Const immediate)) address)) }
+    ensures trees { OnOk result (trees_of arena.new conditions.new
+        ≡ with_conditions (trees_of arena.old conditions.old) (forms.pin norm (norm (Alu Add) (register_tree arena.old state.now register) (Const immediate)) address)) }
     ensures listed { Belong arena.new conditions.new }
     ensures keeps { Extends arena.old arena.new }
 {
@@ -239,7 +249,8 @@ fn add_jump(
     requires listed { Belong arena.old conditions.old }
     requires state { IsState arena.old state.now }
     requires register { register < 32 }
-    ensures trees { OnOk result (trees_of arena.new conditions.new ≡ with_conditions (trees_of arena.old conditions.old) (forms.target norm (norm (Alu Add) (register_tree arena.old state.now register) (Const immediate)) target)) }
+    ensures trees { OnOk result (trees_of arena.new conditions.new
+        ≡ with_conditions (trees_of arena.old conditions.old) (forms.target norm (norm (Alu Add) (register_tree arena.old state.now register) (Const immediate)) target)) }
     ensures listed { Belong arena.new conditions.new }
     ensures keeps { Extends arena.old arena.new }
 {
@@ -260,7 +271,9 @@ fn add_row(
     requires listed { Belong arena.old conditions.old }
     requires state { IsState arena.old state.now }
     requires well_formed { IsWellFormed instr }
-    ensures trees { (image : Map) → OnOk result (trees_of arena.new conditions.new ≡ with_conditions (trees_of arena.old conditions.old) (row_conditions norm (terms_of arena.old image state.now) event.now shown instr)) }
+    ensures trees { (image : Map) →
+        OnOk result (trees_of arena.new conditions.new
+            ≡ with_conditions (trees_of arena.old conditions.old) (row_conditions norm (terms_of arena.old image state.now) event.now shown instr)) }
     ensures listed { Belong arena.new conditions.new }
     ensures keeps { Extends arena.old arena.new }
 {
@@ -315,7 +328,8 @@ fn add_word(
 ) -> Result<(), AllocError>
     requires listed { Belong arena.old conditions.old }
     requires state { IsState arena.old state.now }
-    ensures trees { OnOk result (trees_of arena.new conditions.new ≡ with_conditions (trees_of arena.old conditions.old) (fetch_conditions norm (terms_of arena.old (start_map image.now.segments) state.now) event.now.pc event.now.word ++ instr_conditions norm (terms_of arena.old (start_map image.now.segments) state.now) event.now shown (decoded event.now.word))) }
+    ensures trees { OnOk result (trees_of arena.new conditions.new
+        ≡ with_conditions (trees_of arena.old conditions.old) (fetch_conditions norm (terms_of arena.old (start_map image.now.segments) state.now) event.now.pc event.now.word ++ instr_conditions norm (terms_of arena.old (start_map image.now.segments) state.now) event.now shown (decoded event.now.word))) }
     ensures listed { Belong arena.new conditions.new }
     ensures keeps { Extends arena.old arena.new }
 {
@@ -339,7 +353,8 @@ pub(crate) fn add_event(
 ) -> Result<(), AllocError>
     requires listed { Belong arena.old conditions.old }
     requires state { IsState arena.old state.now }
-    ensures trees { OnOk result (trees_of arena.new conditions.new ≡ with_conditions (trees_of arena.old conditions.old) (conditions_of norm (terms_of arena.old (start_map image.now.segments) state.now) event.now shown)) }
+    ensures trees { OnOk result (trees_of arena.new conditions.new
+        ≡ with_conditions (trees_of arena.old conditions.old) (conditions_of norm (terms_of arena.old (start_map image.now.segments) state.now) event.now shown)) }
     ensures listed { Belong arena.new conditions.new }
     ensures keeps { Extends arena.old arena.new }
 {

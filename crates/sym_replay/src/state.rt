@@ -62,7 +62,8 @@ impl State {
     pub(crate) fn put(&mut self, register: u8, t: Term)
         requires { register < 32 }
         ensures state { (trees : List Tree) → IsState trees self.old → IsTermIn trees t → IsState trees self.new }
-        ensures terms { (trees : List Tree) (image : Map) → terms_of trees image self.new ≡ put_reg register (tree_of trees t) (terms_of trees image self.old) }
+        ensures terms { (trees : List Tree) (image : Map) →
+            terms_of trees image self.new ≡ put_reg register (tree_of trees t) (terms_of trees image self.old) }
         ensures place { self.new.place ≡ self.old.place }
     {
         if register != 0 {
@@ -89,8 +90,11 @@ impl State {
 
     /// Puts a term at an address.
     pub(crate) fn put_byte(&mut self, address: u32, t: Term) -> Result<(), AllocError>
-        ensures state { (trees : List Tree) → IsState trees self.old → IsTermIn trees t → OnOk result (IsState trees self.new) }
-        ensures terms { (trees : List Tree) (image : Map) → OnOk result (terms_of trees image self.new ≡ record (terms_of trees image self.old) { bytes = with_tree (terms_of trees image self.old).bytes address (tree_of trees t) }) }
+        ensures state { (trees : List Tree) → IsState trees self.old → IsTermIn trees t →
+            OnOk result (IsState trees self.new) }
+        ensures terms { (trees : List Tree) (image : Map) →
+            OnOk result (terms_of trees image self.new
+                ≡ record (terms_of trees image self.old) { bytes = with_tree (terms_of trees image self.old).bytes address (tree_of trees t) }) }
         ensures registers { self.new.registers ≡ self.old.registers }
         ensures place { self.new.place ≡ self.old.place }
     {

@@ -54,8 +54,13 @@ pub fn replay(
     arena: &mut Arena,
 ) -> Result<Conditions, AllocError>
     ensures trees { IfOk result (λ c. trees_of arena.new c ≡ conditions_of (program_of image.now) transcript.now) }
-    ensures class { (limit : ℕ) (x y : List ℕ) → IsProgram (program_of image.now) → IsCrash (program_of image.now) limit x transcript.now → IsInput transcript.now.n y → IfOk result (λ c. Hold (trees_of arena.new c) y ↔ IsTrue (in_class (program_of image.now) limit transcript.now y)) }
-    ensures proper { (limit : ℕ) (x : List ℕ) → IsProgram (program_of image.now) → IsCrash (program_of image.now) limit x transcript.now → IfOk result (λ c. AreProper transcript.now.n (trees_of arena.new c)) }
+    ensures class { (limit : ℕ) (x y : List ℕ) → IsProgram (program_of image.now) →
+        IsCrash (program_of image.now) limit x transcript.now → IsInput transcript.now.n y →
+        IfOk result (λ c. Hold (trees_of arena.new c) y
+            ↔ IsTrue (in_class (program_of image.now) limit transcript.now y)) }
+    ensures proper { (limit : ℕ) (x : List ℕ) → IsProgram (program_of image.now) →
+        IsCrash (program_of image.now) limit x transcript.now →
+        IfOk result (λ c. AreProper transcript.now.n (trees_of arena.new c)) }
     ensures listed { IfOk result (Belong arena.new) }
     ensures keeps { Extends arena.old arena.new }
 {

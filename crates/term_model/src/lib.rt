@@ -119,7 +119,8 @@ pub fn values_are_words()
 
 /// Each byte that is named as zero is zero under every input.
 pub fn zero_bytes_are_zero()
-    ensures zero { (t : Tree) (k : ℕ) (input : List ℕ) → HasWords t → AreBytes input → is_zero_byte t k ≡ true → byte_of k (val t input) ≡ 0 }
+    ensures zero { (t : Tree) (k : ℕ) (input : List ℕ) → HasWords t → AreBytes input → is_zero_byte t k ≡ true →
+        byte_of k (val t input) ≡ 0 }
 {}
 
 /// A truth term has the value 0 or 1.

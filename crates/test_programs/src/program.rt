@@ -61,7 +61,8 @@ pub fn program_image(
     words: &[u32],
     regions: &[Region],
 ) -> Result<Image, ProgramError>
-    ensures image { IfOk result (λ image. (file : List ℕ) × IsProgram words.now regions.now file × IsImageOf file image) }
+    ensures image { IfOk result (λ image. (file : List ℕ) × IsProgram words.now regions.now file
+        × IsImageOf file image) }
     ensures word { result ≡ Err ProgramError.Word → has_other words.now ≡ true }
     ensures regions { result ≡ Err ProgramError.Regions → cannot_load (length words.now) regions.now ≡ true }
     ensures long { result ≡ Err ProgramError.TooLong → 16777216 < file_length (length words.now) regions.now }

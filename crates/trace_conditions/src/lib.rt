@@ -28,7 +28,9 @@ use term_model::{same_trees_are_equal, values_are_words};
 /// The conditions of a run that a trap ended hold of an input of its length exactly where the program's run on that input
 /// tells the same.
 pub fn conditions_hold_of_the_class()
-    ensures class { (program : Program) (limit : ℕ) (x y : List ℕ) (run : runs.Transcript) → IsProgram program → IsCrash program limit x run → IsInput run.n y → Hold (conditions_of program run) y ↔ IsTrue (in_class program limit run y) }
+    ensures class { (program : Program) (limit : ℕ) (x y : List ℕ) (run : runs.Transcript) →
+        IsProgram program → IsCrash program limit x run → IsInput run.n y →
+        Hold (conditions_of program run) y ↔ IsTrue (in_class program limit run y) }
 {
     normal_form_is_normal();
     normal_form_keeps_the_value();
@@ -39,7 +41,9 @@ pub fn conditions_hold_of_the_class()
 
 /// Each condition of a run that a trap ended is a truth term that reads some byte of the input, and only such bytes.
 pub fn conditions_are_proper()
-    ensures proper { (program : Program) (limit : ℕ) (x : List ℕ) (run : runs.Transcript) → IsProgram program → IsCrash program limit x run → AreProper run.n (conditions_of program run) }
+    ensures proper { (program : Program) (limit : ℕ) (x : List ℕ) (run : runs.Transcript) →
+        IsProgram program → IsCrash program limit x run →
+        AreProper run.n (conditions_of program run) }
 {
     normal_form_is_normal();
     normal_form_keeps_the_value();
@@ -51,9 +55,12 @@ pub fn conditions_are_proper()
 /// What each form of condition says of an input: that two terms have one value, that a term has a value, or that a sum has
 /// a value once its lowest bit is cleared.
 pub fn forms_say_what_they_name()
-    ensures equal { (a b : Tree) (y : List ℕ) → IsNormal a → IsNormal b → AreBytes y → Hold (equal norm a b) y ↔ (val a y ≡ val b y) }
-    ensures pin { (t : Tree) (value : ℕ) (y : List ℕ) → IsNormal t → value < 2 ^ 32 → AreBytes y → Hold (pin norm t value) y ↔ (val t y ≡ value) }
-    ensures target { (sum : Tree) (value : ℕ) (y : List ℕ) → IsNormal sum → value < 2 ^ 32 → value % 2 ≡ 0 → AreBytes y → Hold (target norm sum value) y ↔ (even (val sum y) ≡ value) }
+    ensures equal { (a b : Tree) (y : List ℕ) → IsNormal a → IsNormal b → AreBytes y →
+        Hold (equal norm a b) y ↔ (val a y ≡ val b y) }
+    ensures pin { (t : Tree) (value : ℕ) (y : List ℕ) → IsNormal t → value < 2 ^ 32 → AreBytes y →
+        Hold (pin norm t value) y ↔ (val t y ≡ value) }
+    ensures target { (sum : Tree) (value : ℕ) (y : List ℕ) → IsNormal sum → value < 2 ^ 32 → value % 2 ≡ 0 →
+        AreBytes y → Hold (target norm sum value) y ↔ (even (val sum y) ≡ value) }
 {
     normal_form_is_normal();
     normal_form_keeps_the_value();
@@ -62,7 +69,8 @@ pub fn forms_say_what_they_name()
 
 /// Conditions with more, of which those that add nothing are left out, hold of an input exactly where both lists do.
 pub fn lists_hold_together()
-    ensures together { (ts more : List Tree) (y : List ℕ) → Hold (with_conditions ts more) y ↔ (Hold ts y × Hold more y) }
+    ensures together { (ts more : List Tree) (y : List ℕ) →
+        Hold (with_conditions ts more) y ↔ (Hold ts y × Hold more y) }
 {
     same_trees_are_equal();
 }
