@@ -1,4 +1,4 @@
-//! The words of programs, as GNU as gives them.
+//! The words of programs. All but [`RUN_WHAT_IT_STORED`] are as GNU as gives them.
 
 /// The call write on descriptor 1 of two bytes from the last address on. It exits with the answer.
 pub const WRITE_PAST_MEMORY: [u32; 7] = [
