@@ -1,12 +1,12 @@
 -- The groups of a finest division are those that follow from the conditions alone.
-use Rattle.std.proofs.Common.{◌≡◌, ◌∙◌, ℕ, zero, suc, ◌+◌, ◌<◌, ◌≤◌, inl, inr, Bool, true, false, ◌&&◌, List, [], ◌∷◌, length, get_or, map, refl, sym, ap, subst, arith}
+use Rattle.std.proofs.Common.{◌≡◌, ◌∙◌, ℕ, zero, suc, ◌+◌, ◌<◌, ◌≤◌, Bool, true, List, [], length, get_or, map, sym, ap, subst, arith}
 use Rattle.std.specs.Prelude.{All, AllPairs, Contains, filter, nat_eq, nat_lt, slice_index}
 use Rattle.std.specs.List.{list_any, range_with_len}
 use Rattle.std.proofs.lemmas.List.{get_or_default, get_or-map, length-map}
 use Rattle.std.proofs.lemmas.List.Elements.{All-contains}
 use Rattle.std.proofs.lemmas.List.FromFn.{length-range_with_len, get_or-range_with_len}
 use Rattle.std.proofs.lemmas.List.Kept.{AllPairs-filter}
-use Rattle.std.proofs.lemmas.Bool.{and_parts, and_from, cases_order}
+use Rattle.std.proofs.lemmas.Bool.{and_parts, and_from}
 use Rattle.term_model.specs.Tree.{Tree}
 use Rattle.term_model.specs.Places.{reads, ReadsBelow}
 use Rattle.term_model.proofs.PlaceLemmas.{reads_are_below}

@@ -1,37 +1,33 @@
 -- The sets of a member follow from each group's conditions.
-use Rattle.std.proofs.Common.{◌≡◌, ◌≢◌, ℕ, zero, suc, ◌*◌, ◌<◌, ◌≤◌, ◌^◌, ◌⊎◌, inl, inr, Bool, true, false, cond, ◌&&◌, List, [], ◌∷◌, length, get_or, refl, sym, ◌∙◌, ap, subst, arith}
-use Rattle.std.specs.Prelude.{Option, None, Some, All, Contains, filter, find, nat_eq, nat_lt, slice_index, slice_set, IsTrue}
-use Rattle.std.specs.List.{list_any, list_all, range_with_len}
+use Rattle.std.proofs.Common.{◌≡◌, ◌≢◌, ℕ, zero, suc, ◌<◌, ◌⊎◌, inl, inr, Bool, true, false, cond, ◌&&◌, List, [], ◌∷◌, length, get_or, refl, sym, ◌∙◌, ap, arith}
+use Rattle.std.specs.Prelude.{All, Contains, filter, nat_eq, nat_lt, slice_index, slice_set, IsTrue}
+use Rattle.std.specs.List.{list_any, list_all}
 use mathlib.Core.Path.{fun_ext}
 use Rattle.std.proofs.lemmas.List.{get_or-set_other, set-get_or}
 use Rattle.std.proofs.lemmas.List.FromFn.{length-map-range_with_len, get_or-map-range_with_len}
 use Rattle.std.proofs.lemmas.List.Sums.{list_all-from_AllPass}
-use Rattle.std.proofs.lemmas.Bool.{and_parts, and_from, cases_Bool, cases_eq, cases_lt, both_ways, false_from_ne_true, true_from_ne_false, ltb-true, lt-ltb}
+use Rattle.std.proofs.lemmas.Bool.{and_parts, and_from, cases_Bool, cases_eq, both_ways, false_from_ne_true, ltb-true, lt-ltb}
 use Rattle.term_model.specs.Tree.{Tree}
 use Rattle.term_model.specs.Places.{reads, ReadsBelow}
 use Rattle.term_model.specs.Conditions.{holds}
 use Rattle.term_model.proofs.PlaceLemmas.{value_follows}
 use Rattle.term_arena.specs.Trees.{tree_of, trees_of}
-use Rattle.input_laws.specs.Inputs.{IsInput, bytes, class_size}
-use Rattle.input_laws.specs.Parts.{IsByParts, KeepPart}
-use Rattle.input_laws.specs.Sets.{IsChoice, set_at, size, freed, revealed}
+use Rattle.input_laws.specs.Inputs.{IsInput, bytes}
+use Rattle.input_laws.specs.Sets.{IsChoice, set_at, size, freed}
 use Rattle.input_laws.specs.Narrow.{freed_beside}
-use Rattle.input_laws.proofs.Bound.{bytes_in_range, bound}
+use Rattle.input_laws.proofs.Bound.{bytes_in_range}
 use Rattle.input_laws.proofs.ByteByByte.{input_with}
 use Rattle.input_laws.proofs.Freed.{filled}
-use Rattle.input_laws.proofs.Narrow.{only_keeps, pair_keeps}
-use Rattle.input_laws.proofs.Parts.{choices_by_parts}
 use Rattle.group_model.specs.declared.Group.{Group}
-use Rattle.group_model.specs.Conditions.{IsCondition}
 use Rattle.group_model.specs.Division.{IsGrouped, AreGroups}
-use Rattle.group_model.proofs.HoldLemmas.{held, passed, found_among, among_found}
-use Rattle.group_laws.specs.Groups.{first_of, has_wide_group, values_beside, values_at, sets_by_groups}
-use Rattle.group_laws.specs.Parts.{IsByConditions, parts_of}
-use Rattle.group_laws.proofs.Lists.{any_here, contains_first, contains_later, all_map_from, all_from, kept_passes, all_agree}
-use Rattle.group_laws.proofs.Groups.{reads_within, has_condition, condition_of, condition_within, places_ascend, group_is_filled, group_is_uncut, place_is_below, contains_at}
+use Rattle.group_model.proofs.HoldLemmas.{held, passed}
+use Rattle.group_laws.specs.Groups.{first_of, values_beside, values_at, sets_by_groups}
+use Rattle.group_laws.specs.Parts.{IsByConditions}
+use Rattle.group_laws.proofs.Lists.{any_here, all_from, kept_passes, all_agree}
+use Rattle.group_laws.proofs.Groups.{has_condition, places_ascend, group_is_filled, contains_at}
 use Rattle.group_laws.proofs.Firsts.{same_number, itself, one_truth}
-use Rattle.group_laws.proofs.Division.{first_of_free, first_of_group, wide_are}
-use Rattle.group_laws.proofs.Parts.{part, hold_at, hold_from, group_holds, by_parts, group_looks}
+use Rattle.group_laws.proofs.Division.{first_of_free, first_of_group}
+use Rattle.group_laws.proofs.Parts.{hold_at, hold_from, group_holds}
 
 -- ---- tests of bytes
 

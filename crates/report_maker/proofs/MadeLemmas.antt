@@ -6,7 +6,7 @@ use Rattle.std.proofs.lemmas.List.{length-map}
 use Rattle.std.proofs.lemmas.List.Filters.{length-filter_both}
 use Rattle.std.proofs.lemmas.List.FromFn.{length-range_with_len}
 use Rattle.std.proofs.lemmas.List.Elements.{All-nil, All-cons, All-head, All-tail, All-map, All-contains, All-take, All-drop}
-use Rattle.std.proofs.lemmas.Bool.{cases_lt, ltb-true, lt-ltb}
+use Rattle.std.proofs.lemmas.Bool.{cases_lt, lt-ltb}
 use Rattle.elf32.specs.declared.image.Image.{Image}
 use Rattle.elf32.specs.declared.segments.Segment.{Segment}
 use Rattle.elf32.specs.Fields.{headers}
@@ -35,7 +35,7 @@ use Rattle.group_model.specs.Conditions.{IsCondition}
 use Rattle.group_model.specs.Division.{IsGrouped, AreGroups}
 use Rattle.group_laws.specs.Groups.{begins_group, group_with, groups_of, has_wide_group, sets_by_groups}
 use Rattle.group_laws.specs.Parts.{IsByConditions, HasFirst, HasSets}
-use Rattle.group_laws.proofs.Lists.{all_from, all_at_map, any_found, any_here}
+use Rattle.group_laws.proofs.Lists.{all_from, all_at_map, any_here}
 use Rattle.group_laws.proofs.Groups.{group_is_filled}
 use Rattle.group_laws.proofs.Division.{groups_are, wide_are}
 use Rattle.group_laws.proofs.Parts.{places_below, is_group, group_holds, first_from_groups}

@@ -46,7 +46,7 @@ pub fn make(arena: &mut Arena, op: Op, a: Term, b: Term) -> Result<Term, AllocEr
     ensures normal { IfOk result (λ t. IsNormal (tree_of arena.new t)) }
     ensures value { IfOk result (λ t. (input : List ℕ) → AreBytes input →
         val (tree_of arena.new t) input
-            ≡ op_value op (val (tree_of arena.old a) input) (val (tree_of arena.old b) input)) }
+        ≡ op_value op (val (tree_of arena.old a) input) (val (tree_of arena.old b) input)) }
     ensures keeps { Extends arena.old arena.new }
     ensures grows { length arena.old ≤ length arena.new }
 {

@@ -109,7 +109,7 @@ impl State {
         ensures state { OnOk result (IsState arena.new self.new) }
         ensures terms { (image : Map) →
             OnOk result (terms_of arena.new image self.new
-                ≡ record (terms_of arena.old image self.old) { bytes = with_tree (terms_of arena.old image self.old).bytes address (byte_of_term norm k (tree_of arena.old t)) }) }
+            ≡ record (terms_of arena.old image self.old) { bytes = with_tree (terms_of arena.old image self.old).bytes address (byte_of_term norm k (tree_of arena.old t)) }) }
         ensures place { self.new.place ≡ self.old.place }
         ensures keeps { Extends arena.old arena.new }
     {
@@ -125,7 +125,7 @@ impl State {
         ensures state { OnOk result (IsState arena.new self.new) }
         ensures terms { (image : Map) →
             OnOk result (terms_of arena.new image self.new
-                ≡ record (terms_of arena.old image self.old) { bytes = put_trees (terms_of arena.old image self.old).bytes address (definitions.stored_terms norm Width.H (tree_of arena.old t)) }) }
+            ≡ record (terms_of arena.old image self.old) { bytes = put_trees (terms_of arena.old image self.old).bytes address (definitions.stored_terms norm Width.H (tree_of arena.old t)) }) }
         ensures place { self.new.place ≡ self.old.place }
         ensures keeps { Extends arena.old arena.new }
     {
@@ -141,7 +141,7 @@ impl State {
         ensures state { OnOk result (IsState arena.new self.new) }
         ensures terms { (image : Map) →
             OnOk result (terms_of arena.new image self.new
-                ≡ record (terms_of arena.old image self.old) { bytes = put_trees (terms_of arena.old image self.old).bytes address (definitions.stored_terms norm Width.W (tree_of arena.old t)) }) }
+            ≡ record (terms_of arena.old image self.old) { bytes = put_trees (terms_of arena.old image self.old).bytes address (definitions.stored_terms norm Width.W (tree_of arena.old t)) }) }
         ensures place { self.new.place ≡ self.old.place }
         ensures keeps { Extends arena.old arena.new }
     {
@@ -165,7 +165,7 @@ impl State {
         ensures state { OnOk result (IsState arena.new self.new) }
         ensures terms { (image : Map) →
             OnOk result (terms_of arena.new image self.new
-                ≡ record (terms_of arena.old image self.old) { bytes = put_trees (terms_of arena.old image self.old).bytes address (definitions.stored_terms norm width (tree_of arena.old t)) }) }
+            ≡ record (terms_of arena.old image self.old) { bytes = put_trees (terms_of arena.old image self.old).bytes address (definitions.stored_terms norm width (tree_of arena.old t)) }) }
         ensures place { self.new.place ≡ self.old.place }
         ensures keeps { Extends arena.old arena.new }
     {
@@ -188,7 +188,7 @@ impl State {
         ensures state { OnOk result (IsState arena.new self.new) }
         ensures terms { (image : Map) →
             OnOk result (terms_of arena.new image self.new
-                ≡ record (terms_of arena.old image self.old) { bytes = put_trees (terms_of arena.old image self.old).bytes address (definitions.input_terms self.old.place count); place = self.old.place + count }) }
+            ≡ record (terms_of arena.old image self.old) { bytes = put_trees (terms_of arena.old image self.old).bytes address (definitions.input_terms self.old.place count); place = self.old.place + count }) }
         ensures place { OnOk result (self.new.place ≡ self.old.place + count) }
         ensures keeps { Extends arena.old arena.new }
     {
@@ -231,7 +231,7 @@ impl State {
         ensures state { OnOk result (IsState arena.new self.new) }
         ensures terms { (image : Map) →
             OnOk result (terms_of arena.new image self.new
-                ≡ put_reg register (Const value) (terms_of arena.old image self.old)) }
+            ≡ put_reg register (Const value) (terms_of arena.old image self.old)) }
         ensures place { self.new.place ≡ self.old.place }
         ensures keeps { Extends arena.old arena.new }
     {
@@ -256,7 +256,7 @@ impl State {
         ensures state { OnOk result (IsState arena.new self.new) }
         ensures terms { (image : Map) →
             OnOk result (terms_of arena.new image self.new
-                ≡ put_reg register (norm (Alu op) (tree_of arena.old a) (tree_of arena.old b)) (terms_of arena.old image self.old)) }
+            ≡ put_reg register (norm (Alu op) (tree_of arena.old a) (tree_of arena.old b)) (terms_of arena.old image self.old)) }
         ensures place { self.new.place ≡ self.old.place }
         ensures keeps { Extends arena.old arena.new }
     {
@@ -280,7 +280,7 @@ impl State {
         ensures state { OnOk result (IsState arena.new self.new) }
         ensures terms { (image : Map) →
             OnOk result (terms_of arena.new image self.new
-                ≡ put_reg register (norm (Alu op) (register_tree arena.old self.old first) (Const immediate)) (terms_of arena.old image self.old)) }
+            ≡ put_reg register (norm (Alu op) (register_tree arena.old self.old first) (Const immediate)) (terms_of arena.old image self.old)) }
         ensures place { self.new.place ≡ self.old.place }
         ensures keeps { Extends arena.old arena.new }
     {
@@ -318,7 +318,7 @@ impl State {
         ensures state { OnOk result (IsState arena.new self.new) }
         ensures terms { (image : Map) →
             OnOk result (terms_of arena.new image self.new
-                ≡ definitions.after_reply (terms_of arena.old image self.old) event.now (reply_of reply)) }
+            ≡ definitions.after_reply (terms_of arena.old image self.old) event.now (reply_of reply)) }
         ensures place { OnOk result (self.new.place ≡ self.old.place + moved reply) }
         ensures keeps { Extends arena.old arena.new }
     {
@@ -345,7 +345,7 @@ impl State {
         ensures state { OnOk result (IsState arena.new self.new) }
         ensures terms { (image : Map) →
             OnOk result (terms_of arena.new image self.new
-                ≡ definitions.after_row norm memory.now n (terms_of arena.old image self.old) event.now Instr.Ecall) }
+            ≡ definitions.after_row norm memory.now n (terms_of arena.old image self.old) event.now Instr.Ecall) }
         ensures place { OnOk result (self.new.place ≤ n) }
         ensures keeps { Extends arena.old arena.new }
     {

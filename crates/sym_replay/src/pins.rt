@@ -181,7 +181,7 @@ fn add_call(
     requires state { IsState arena.old state.now }
     ensures trees { (image : Map) →
         OnOk result (trees_of arena.new conditions.new
-            ≡ with_conditions (trees_of arena.old conditions.old) (call_conditions (terms_of arena.old image state.now) call)) }
+        ≡ with_conditions (trees_of arena.old conditions.old) (call_conditions (terms_of arena.old image state.now) call)) }
     ensures listed { Belong arena.new conditions.new }
     ensures keeps { Extends arena.old arena.new }
 {
@@ -273,7 +273,7 @@ fn add_row(
     requires well_formed { IsWellFormed instr }
     ensures trees { (image : Map) →
         OnOk result (trees_of arena.new conditions.new
-            ≡ with_conditions (trees_of arena.old conditions.old) (row_conditions norm (terms_of arena.old image state.now) event.now shown instr)) }
+        ≡ with_conditions (trees_of arena.old conditions.old) (row_conditions norm (terms_of arena.old image state.now) event.now shown instr)) }
     ensures listed { Belong arena.new conditions.new }
     ensures keeps { Extends arena.old arena.new }
 {

@@ -94,7 +94,7 @@ impl State {
             OnOk result (IsState trees self.new) }
         ensures terms { (trees : List Tree) (image : Map) →
             OnOk result (terms_of trees image self.new
-                ≡ record (terms_of trees image self.old) { bytes = with_tree (terms_of trees image self.old).bytes address (tree_of trees t) }) }
+            ≡ record (terms_of trees image self.old) { bytes = with_tree (terms_of trees image self.old).bytes address (tree_of trees t) }) }
         ensures registers { self.new.registers ≡ self.old.registers }
         ensures place { self.new.place ≡ self.old.place }
     {

@@ -57,7 +57,7 @@ pub fn replay(
     ensures class { (limit : ℕ) (x y : List ℕ) → IsProgram (program_of image.now) →
         IsCrash (program_of image.now) limit x transcript.now → IsInput transcript.now.n y →
         IfOk result (λ c. Hold (trees_of arena.new c) y
-            ↔ IsTrue (in_class (program_of image.now) limit transcript.now y)) }
+        ↔ IsTrue (in_class (program_of image.now) limit transcript.now y)) }
     ensures proper { (limit : ℕ) (x : List ℕ) → IsProgram (program_of image.now) →
         IsCrash (program_of image.now) limit x transcript.now →
         IfOk result (λ c. AreProper transcript.now.n (trees_of arena.new c)) }
