@@ -3,16 +3,16 @@
 use byte_sets::{ByteSet, revealed};
 use report_format::write_report;
 use report_maker::Made;
-use rv_event::Trap;
+use rv_event::{Trap, TrapKind};
 use std::alloc::{AllocError, Global};
 use std::process::Abort;
 
 /// The place of a byte, and the lowest and the highest of its values, which are all between these.
-pub type Range = (usize, u32, u32);
+pub(crate) type Range = (usize, u32, u32);
 
 /// A program and an input, and what the report says.
 #[derive(Clone, Copy)]
-pub struct Case {
+pub(crate) struct Case {
     pub words: &'static [u32],
     pub input: &'static [u8],
     pub seed: u64,
@@ -28,8 +28,17 @@ pub struct Case {
     pub groups: u32,
 }
 
+/// The trap of an EBREAK.
+pub(crate) fn breakpoint(pc: u32) -> Trap {
+    Trap {
+        kind: TrapKind::Breakpoint,
+        pc,
+        value: 0,
+    }
+}
+
 /// Whether a set has just the values from the lowest to the highest.
-pub fn is_range(set: &ByteSet, lowest: u32, highest: u32) -> bool {
+pub(crate) fn is_range(set: &ByteSet, lowest: u32, highest: u32) -> bool {
     (0..256u32).all(|value| set.contains(value as u8) == (lowest <= value && value <= highest))
 }
 
@@ -53,14 +62,14 @@ fn are_sets(sets: &[ByteSet], ranges: &[Range]) -> bool {
 }
 
 /// Asserts that the sets can be written, and reveal so many bits.
-pub fn expect_revealed(rt: &impl Abort, sets: &[ByteSet], bits: u32) {
+pub(crate) fn expect_revealed(rt: &impl Abort, sets: &[ByteSet], bits: u32) {
     assert!(rt; sets.len() <= 65_536);
     assert!(rt; sets.iter().all(|set| set.size() > 0));
     assert_eq!(rt; revealed(sets), bits);
 }
 
 /// Asserts that a report says what the case says.
-pub fn expect(rt: &impl Abort, made: &Made, case: &Case) {
+pub(crate) fn expect(rt: &impl Abort, made: &Made, case: &Case) {
     let report = &made.report;
     assert_eq!(rt; report.trap, case.trap);
     assert_eq!(rt; report.steps, case.steps);
@@ -73,7 +82,7 @@ pub fn expect(rt: &impl Abort, made: &Made, case: &Case) {
 }
 
 /// Asserts that a report has this text.
-pub fn expect_text(
+pub(crate) fn expect_text(
     rt: &impl Abort,
     alloc: Global,
     made: &Made,

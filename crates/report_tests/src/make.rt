@@ -13,7 +13,7 @@ use test_programs::program_file;
 const STEPS: u32 = 1_000_000;
 
 /// What is made of the run of a program's file on an input of at most 65,536 bytes, which ends in a trap.
-pub fn made_of_file(
+pub(crate) fn made_of_file(
     alloc: Global,
     file: &[u8],
     input: &[u8],
@@ -34,7 +34,7 @@ pub fn made_of_file(
 }
 
 /// The same of a program's words and regions.
-pub fn made_of(
+pub(crate) fn made_of(
     alloc: Global,
     words: &[u32],
     regions: &[Region],

@@ -1,4 +1,4 @@
-use crate::case::{Case, expect, expect_revealed, expect_text, is_range};
+use crate::case::{Case, breakpoint, expect, expect_revealed, expect_text, is_range};
 use crate::make::{made_of, made_of_file};
 use crate::programs::{EACH_BYTE, THREE_TIMES};
 use report_maker::MakeError;
@@ -36,11 +36,7 @@ fn single_bytes(rt: HostRuntime) -> Result<(), Fail> {
             words: &BELOW_TEN,
             input: b"\x07",
             seed: 0,
-            trap: Trap {
-                kind: TrapKind::Breakpoint,
-                pc: 0x1_0024,
-                value: 0,
-            },
+            trap: breakpoint(0x1_0024),
             steps: 8,
             first: b"\x00",
             sets: &[(0, 0, 9)],
@@ -51,11 +47,7 @@ fn single_bytes(rt: HostRuntime) -> Result<(), Fail> {
             words: &DIVIDE,
             input: b"\x00",
             seed: 0,
-            trap: Trap {
-                kind: TrapKind::Breakpoint,
-                pc: 0x1_002c,
-                value: 0,
-            },
+            trap: breakpoint(0x1_002c),
             steps: 10,
             first: b"\x00",
             sets: &[(0, 0, 0)],
@@ -66,11 +58,7 @@ fn single_bytes(rt: HostRuntime) -> Result<(), Fail> {
             words: &COMPARE_WORD,
             input: b"xV4\x12",
             seed: 0,
-            trap: Trap {
-                kind: TrapKind::Breakpoint,
-                pc: 0x1_0028,
-                value: 0,
-            },
+            trap: breakpoint(0x1_0028),
             steps: 9,
             first: b"xV4\x12",
             sets: &[
@@ -117,11 +105,7 @@ fn pairs_of_bytes(rt: HostRuntime) -> Result<(), Fail> {
             words: &SUM_OF_TWO,
             input: b"22",
             seed: 0,
-            trap: Trap {
-                kind: TrapKind::Breakpoint,
-                pc: 0x1_002c,
-                value: 0,
-            },
+            trap: breakpoint(0x1_002c),
             steps: 10,
             first: b"\x00d",
             sets: &[(0, 0, 0), (1, 100, 100)],
@@ -132,11 +116,7 @@ fn pairs_of_bytes(rt: HostRuntime) -> Result<(), Fail> {
             words: &RISING_PAIR,
             input: b"\x10 ",
             seed: 0,
-            trap: Trap {
-                kind: TrapKind::Breakpoint,
-                pc: 0x1_0024,
-                value: 0,
-            },
+            trap: breakpoint(0x1_0024),
             steps: 8,
             first: b"\x00\x01",
             sets: &[(0, 0, 0), (1, 1, 255)],
@@ -147,11 +127,7 @@ fn pairs_of_bytes(rt: HostRuntime) -> Result<(), Fail> {
             words: &EQUAL_PAIR,
             input: b"22",
             seed: 0,
-            trap: Trap {
-                kind: TrapKind::Breakpoint,
-                pc: 0x1_0024,
-                value: 0,
-            },
+            trap: breakpoint(0x1_0024),
             steps: 8,
             first: b"\x00\x00",
             sets: &[(0, 0, 0), (1, 0, 0)],
@@ -162,11 +138,7 @@ fn pairs_of_bytes(rt: HostRuntime) -> Result<(), Fail> {
             words: &PAIRS_AND_A_BYTE,
             input: b"x\x10. x\x07!",
             seed: 0,
-            trap: Trap {
-                kind: TrapKind::Breakpoint,
-                pc: 0x1_003c,
-                value: 0,
-            },
+            trap: breakpoint(0x1_003c),
             steps: 14,
             first: b"\x00\x00\x00\x01\x00\x00\x00",
             sets: &[(0, 0, 0), (1, 0, 0), (3, 1, 255), (4, 0, 0), (5, 0, 9)],
@@ -188,11 +160,7 @@ fn bytes_that_show_nothing(rt: HostRuntime) -> Result<(), Fail> {
             words: &BRANCH_TO_THE_NEXT,
             input: b"U",
             seed: 0,
-            trap: Trap {
-                kind: TrapKind::Breakpoint,
-                pc: 0x1_0018,
-                value: 0,
-            },
+            trap: breakpoint(0x1_0018),
             steps: 7,
             first: b"\x00",
             sets: &[],
@@ -246,11 +214,7 @@ fn the_order_of_a_seed(rt: HostRuntime) -> Result<(), Fail> {
             words: &BRANCH_TO_THE_NEXT,
             input: b"U",
             seed: 1,
-            trap: Trap {
-                kind: TrapKind::Breakpoint,
-                pc: 0x1_0018,
-                value: 0,
-            },
+            trap: breakpoint(0x1_0018),
             steps: 7,
             first: b"\xe6",
             sets: &[],
@@ -261,11 +225,7 @@ fn the_order_of_a_seed(rt: HostRuntime) -> Result<(), Fail> {
             words: &SUM_OF_TWO,
             input: b"22",
             seed: 1,
-            trap: Trap {
-                kind: TrapKind::Breakpoint,
-                pc: 0x1_002c,
-                value: 0,
-            },
+            trap: breakpoint(0x1_002c),
             steps: 10,
             first: b"d\x00",
             sets: &[(0, 100, 100), (1, 0, 0)],
@@ -276,11 +236,7 @@ fn the_order_of_a_seed(rt: HostRuntime) -> Result<(), Fail> {
             words: &MARKED_BYTES,
             input: b"abcAefg\x05hijk",
             seed: 1,
-            trap: Trap {
-                kind: TrapKind::Breakpoint,
-                pc: 0x1_0030,
-                value: 0,
-            },
+            trap: breakpoint(0x1_0030),
             steps: 11,
             first: b"\xe6\x0b\xa7A\xee\xf3\xbc\x0dQG\xdf\xca",
             sets: &[(3, 65, 65), (7, 0, 15)],
@@ -291,11 +247,7 @@ fn the_order_of_a_seed(rt: HostRuntime) -> Result<(), Fail> {
             words: &PAIRS_AND_A_BYTE,
             input: b"x\x10. x\x07!",
             seed: 1,
-            trap: Trap {
-                kind: TrapKind::Breakpoint,
-                pc: 0x1_003c,
-                value: 0,
-            },
+            trap: breakpoint(0x1_003c),
             steps: 14,
             first: b"\xe6\x0b\xa73\xe6\x03\xbc",
             sets: &[
