@@ -24,7 +24,8 @@ lists_of lists = map (λ v. v.items) lists
 
 -- the marked places below k in lists by their labels
 pub record AreGathered (labels : List ℕ) (marks : List Bool) (numbers : List (Option ℕ)) (lists : List (List ℕ)) (k : ℕ) : Type 0 where
-  pub holds : (q : ℕ) (d : List ℕ) → q < length lists → (j : ℕ) → Contains (slice_index_or lists q d) j ↔ ((j < k) × (is_marked marks j ≡ true) × (number_at numbers (slice_index labels j) ≡ Some q))
+  pub holds : (q : ℕ) (d : List ℕ) → q < length lists → (j : ℕ) →
+      Contains (slice_index_or lists q d) j ↔ ((j < k) × (is_marked marks j ≡ true) × (number_at numbers (slice_index labels j) ≡ Some q))
   pub ascending : (q : ℕ) (d : List ℕ) → q < length lists → IsAscending (slice_index_or lists q d)
   pub filled : (q : ℕ) (d : List ℕ) → q < length lists → 0 < length (slice_index_or lists q d)
   pub placed : (j : ℕ) → j < k → is_marked marks j ≡ true → (q : ℕ) × (q < length lists) × (number_at numbers (slice_index labels j) ≡ Some q)

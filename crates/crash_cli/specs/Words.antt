@@ -16,7 +16,8 @@ defaults = record { seed = 0; steps = 1000000 }
 
 -- exactly the three words `make PROGRAM INPUT`
 abbrev pub make_of : List (List ℕ) → Option MakeWords
-make_of (action ∷ program ∷ input ∷ []) = if bytes_eq action (codes "make") then Some (record { program = program; input = input; options = defaults }) else None
+make_of (action ∷ program ∷ input ∷ []) =
+    if bytes_eq action (codes "make") then Some (record { program = program; input = input; options = defaults }) else None
 make_of _ = None
 
 -- the same of the words as they lie in memory

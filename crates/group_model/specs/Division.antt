@@ -31,8 +31,10 @@ pub record AreGroups (trees : List Tree) (terms : List ℕ) (groups : List Group
   -- the groups stand in the order of their first places
   pub in_order : AllPairs (λ g h. slice_index g.places 0 < slice_index h.places 0) groups
   -- the places of a condition lie in one group
-  pub whole : (t : ℕ) → Contains terms t → (g : Group) × Contains groups g × ((i : ℕ) → reads (tree_of trees t) i ≡ true → Contains g.places i)
+  pub whole : (t : ℕ) → Contains terms t →
+      (g : Group) × Contains groups g × ((i : ℕ) → reads (tree_of trees t) i ≡ true → Contains g.places i)
   -- a group has the conditions that read its places, in their order
   pub conditions : All (λ g. g.conditions ≡ filter (λ t. list_any (reads (tree_of trees t)) g.places) terms) groups
   -- no group can be cut in two: a test that is steady on each of its conditions is steady on its places
-  pub uncut : All (λ g. (side : ℕ → Bool) → All (λ t. IsSteadyOn side (tree_of trees t)) g.conditions → (a b : ℕ) → Contains g.places a → Contains g.places b → side a ≡ side b) groups
+  pub uncut : All (λ g. (side : ℕ → Bool) → All (λ t. IsSteadyOn side (tree_of trees t)) g.conditions →
+      (a b : ℕ) → Contains g.places a → Contains g.places b → side a ≡ side b) groups

@@ -35,4 +35,5 @@ HasAt places bytes input = (k : ℕ) → k < length places → slice_index input
 -- bytes for the places of a group that meet its conditions, and come before all others that do
 pub record IsGroupFirst (mask places : List ℕ) (conditions : List Tree) (bytes : List ℕ) : Type 0 where
   pub is_input : IsInput (length places) bytes
-  pub first : (n : ℕ) (y : List ℕ) → IsInput n y → All (λ i. i < n) places → HasAt places bytes y → IsFirstOf n mask (part_of places conditions) y
+  pub first : (n : ℕ) (y : List ℕ) → IsInput n y → All (λ i. i < n) places → HasAt places bytes y →
+      IsFirstOf n mask (part_of places conditions) y

@@ -28,12 +28,18 @@ pub record IsDone (trees : List Tree) (mask input : List ℕ) (sets : List (ℕ 
   pub is_first : IsGroupFirst mask group.places (trees_of trees group.conditions) bytes
   pub has : HasAt group.places bytes input
   pub one : length group.places ≡ 1 → (y : List ℕ) → slice_index group.places 0 < length y →
-      set_at sets (slice_index group.places 0) ≡ freed (holds (trees_of trees group.conditions)) y (slice_index group.places 0)
+      let test = holds (trees_of trees group.conditions) in
+      let place = slice_index group.places 0 in
+      set_at sets place ≡ freed test y place
   pub low : length group.places ≡ 2 → (y : List ℕ) → slice_index group.places 1 < length y → HasAt group.places bytes y →
-      set_at sets (slice_index group.places 0) ≡ freed (holds (trees_of trees group.conditions)) y (slice_index group.places 0)
+      let test = holds (trees_of trees group.conditions) in
+      let low = slice_index group.places 0 in
+      set_at sets low ≡ freed test y low
   pub high : length group.places ≡ 2 → (y : List ℕ) → slice_index group.places 1 < length y → HasAt group.places bytes y →
-      set_at sets (slice_index group.places 1)
-      ≡ freed_beside (holds (trees_of trees group.conditions)) (freed (holds (trees_of trees group.conditions)) y (slice_index group.places 0)) y (slice_index group.places 0) (slice_index group.places 1)
+      let test = holds (trees_of trees group.conditions) in
+      let low = slice_index group.places 0 in
+      let high = slice_index group.places 1 in
+      set_at sets high ≡ freed_beside test (freed test y low) y low high
 
 -- none of the first `count` groups has the place
 abbrev pub IsLeft : List Group → ℕ → ℕ → Type 0
