@@ -1,11 +1,11 @@
 -- The gathered places and the dealt conditions are the finest division.
-use Rattle.std.proofs.Common.{◌≡◌, ◌≢◌, ℕ, zero, suc, ◌<◌, ◌⊎◌, ◌&&◌, List, [], ◌∷◌, Bool, true, false, cond, Option, Some, None, length, get_or, map, subst, refl, sym, ◌∙◌, ap, inl, inr, arith, ⊎_elim, nat_eq}
-use Rattle.std.specs.Prelude.{All, Contains, ◌↔◌, filter, slice_index, ◌||◌}
+use Rattle.std.proofs.Common.{◌≡◌, ◌≢◌, ℕ, zero, suc, ◌<◌, ◌&&◌, List, [], ◌∷◌, Bool, true, false, cond, Option, Some, None, length, get_or, map, subst, refl, sym, ◌∙◌, ap, inl, inr, arith, ⊎_elim, nat_eq}
+use Rattle.std.specs.Prelude.{All, Contains, ◌↔◌, filter, slice_index}
 use Rattle.std.specs.List.{list_any, zip}
 use Rattle.std.specs.Global.{Vec}
 use Rattle.std.specs.Ordering.{nat_cmp}
 use Rattle.std.specs.BTreeMap.{BTreeMap, get}
-use Rattle.std.proofs.lemmas.Bool.{cases_eq}
+use Rattle.std.proofs.lemmas.Bool.{cases_eq, or_cases, or_left, or_right}
 use Rattle.std.proofs.lemmas.Bool.Decides.{nat_tests}
 use Rattle.std.proofs.lemmas.List.Elements.{Contains-get_or}
 use Rattle.term_model.specs.Tree.{Tree}
@@ -15,6 +15,7 @@ use Rattle.group_model.specs.declared.Group.{Group}
 use Rattle.group_model.specs.Conditions.{IsCondition}
 use Rattle.group_model.specs.Group.{IsAscending}
 use Rattle.group_model.specs.Division.{IsRead, IsGrouped, IsSteadyOn, AreGroups}
+use Rattle.group_model.proofs.HoldLemmas.{one_truth, same_number}
 use Rattle.byte_groups.specs.Reached.{AreReached, IsLeaf}
 use Rattle.byte_groups.specs.Labels.{IsSteadyAlong}
 use Rattle.byte_groups.specs.Joined.{HasLeaf, ReadsUpTo, AreLabels}
@@ -24,41 +25,21 @@ use Rattle.byte_groups.specs.Grouped.{group_of, AreBuilt, AreGrouped}
 
 -- ---- tests of lists
 
-one_truth : (s t : Bool) → (s ≡ true → t ≡ true) → (t ≡ true → s ≡ true) → s ≡ t
-one_truth true t f g = sym (f refl)
-one_truth false true f g = g refl
-one_truth false false f g = refl
-
-same_number : (x y : ℕ) → nat_eq x y ≡ true → x ≡ y
-same_number x y e = grind (arith, nat_tests)
-
 equal_number : (x y : ℕ) → x ≡ y → nat_eq x y ≡ true
 equal_number x y e = grind (arith, nat_tests)
 
 unequal_number : (x y : ℕ) → x ≢ y → nat_eq x y ≡ false
 unequal_number x y ne = grind (arith, nat_tests)
 
-left_of : (s t : Bool) → s ≡ true → (s || t) ≡ true
-left_of true t e = refl
-left_of false t e = absurd (cc)
-
-right_of : (s t : Bool) → t ≡ true → (s || t) ≡ true
-right_of true t e = refl
-right_of false t e = e
-
-one_of : (s t : Bool) → (s || t) ≡ true → (s ≡ true) ⊎ (t ≡ true)
-one_of true t e = inl refl
-one_of false t e = inr e
-
 -- a test that passes for an item passes for some
 pub any_at : (test : ℕ → Bool) (xs : List ℕ) (x : ℕ) → Contains xs x → test x ≡ true → list_any test xs ≡ true
 any_at test [] x (k, l, e) t = absurd (omega arith)
-any_at test (y ∷ ys) x (zero, l, e) t = left_of (test y) (list_any test ys) (ap test e ∙ t)
-any_at test (y ∷ ys) x (suc k, l, e) t = right_of (test y) (list_any test ys) (any_at test ys x (k, omega arith, e) t)
+any_at test (y ∷ ys) x (zero, l, e) t = or_left (test y) (list_any test ys) (ap test e ∙ t)
+any_at test (y ∷ ys) x (suc k, l, e) t = or_right (test y) (list_any test ys) (any_at test ys x (k, omega arith, e) t)
 
 pub some_item : (test : ℕ → Bool) (xs : List ℕ) → list_any test xs ≡ true → (x : ℕ) × Contains xs x × (test x ≡ true)
 some_item test [] e = absurd (cc)
-some_item test (y ∷ ys) e = elim (one_of (test y) (list_any test ys) e) [
+some_item test (y ∷ ys) e = elim (or_cases (test y) (list_any test ys) e) [
   | inl t ↦ (y, (0, omega arith, refl), t)
   | inr r ↦ let s = some_item test ys r in (s.0, (suc s.1.0, omega (arith, s.1.1), s.1.2), s.2)
 ]

@@ -1,6 +1,7 @@
 -- The terms under conditions, taken from the highest number down.
-use Rattle.std.proofs.Common.{◌≡◌, ℕ, ◌<◌, ◌⊎◌, List, [], ◌∷◌, ◌++◌, Bool, true, false, ◌||◌, length, get_or, subst, refl, ◌∙◌, ap, inl, inr, arith}
+use Rattle.std.proofs.Common.{◌≡◌, ℕ, ◌<◌, ◌⊎◌, List, [], ◌∷◌, ◌++◌, length, get_or, subst, ◌∙◌, ap, inl, inr, arith}
 use Rattle.std.specs.Prelude.{Contains, AllPairs}
+use Rattle.std.proofs.lemmas.Bool.{or_left, or_right}
 use Rattle.std.proofs.lemmas.List.Elements.{Contains-push_cases, Contains-push, Contains-append_left, Contains-get_or}
 use Rattle.std.proofs.lemmas.List.Quantifiers.{all_pairs_push}
 use Rattle.term_model.specs.declared.Op.{Op}
@@ -100,15 +101,7 @@ module _ (trees : List Tree) (conditions pending terms : List ℕ) (so_far : IsR
 -- an operation reads what its operands read
 pub operands_under : (trees : List Tree) (t a b : ℕ) (op : Op) → tree_of trees t ≡ Apply op (tree_of trees a) (tree_of trees b) → ReadsWith trees a t × ReadsWith trees b t
 operands_under trees t a b op e =
-    (λ i r. ap (λ s. reads s i) e ∙ left_of (reads (tree_of trees a) i) (reads (tree_of trees b) i) r, λ i r. ap (λ s. reads s i) e ∙ right_of (reads (tree_of trees a) i) (reads (tree_of trees b) i) r)
-  where
-    left_of : (s t : Bool) → s ≡ true → (s || t) ≡ true
-    left_of true t e = refl
-    left_of false t e = absurd (cc)
-
-    right_of : (s t : Bool) → t ≡ true → (s || t) ≡ true
-    right_of true t e = refl
-    right_of false t e = e
+    (λ i r. ap (λ s. reads s i) e ∙ or_left (reads (tree_of trees a) i) (reads (tree_of trees b) i) r, λ i r. ap (λ s. reads s i) e ∙ or_right (reads (tree_of trees a) i) (reads (tree_of trees b) i) r)
 
 -- the operands of an operation are those of its node
 pub operands_are : (trees : List Tree) (shared : IsShared trees) (t a b : ℕ) (op : Op) → a < length trees → b < length trees → tree_of trees t ≡ Apply op (tree_of trees a) (tree_of trees b) →

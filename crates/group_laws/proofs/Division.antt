@@ -14,10 +14,10 @@ use Rattle.term_arena.specs.Trees.{tree_of, trees_of}
 use Rattle.group_model.specs.declared.Group.{Group}
 use Rattle.group_model.specs.Group.{IsAscending, is_among}
 use Rattle.group_model.specs.Division.{IsRead, IsSteadyOn, IsGrouped, AreGroups}
-use Rattle.group_model.proofs.HoldLemmas.{found_among, among_found}
+use Rattle.group_model.proofs.HoldLemmas.{found_among, among_found, same_number, one_truth}
 use Rattle.group_laws.specs.Groups.{first_of, group_with, begins_group, groups_of, has_wide_group}
 use Rattle.group_laws.proofs.Lists.{any_here, any_found, Found, kept_is_item, kept_passes, item_is_kept, same_lists, contains_map, map_item, map_alike, map_twice, any_map}
-use Rattle.group_laws.proofs.Firsts.{same_number, itself, one_truth, in_range, below_end, first_is_low, first_is_first, read_together, side_of_first, first_of_unread}
+use Rattle.group_laws.proofs.Firsts.{itself, in_range, below_end, first_is_low, first_is_first, read_together, side_of_first, first_of_unread}
 use Rattle.group_laws.proofs.Groups.{reads_within, condition_of, places_ascend, group_is_filled, group_is_uncut, place_is_below, place_is_read, contains_at}
 
 -- ---- lists of numbers

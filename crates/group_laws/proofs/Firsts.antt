@@ -8,24 +8,15 @@ use Rattle.std.proofs.lemmas.Bool.Decides.{nat_tests}
 use Rattle.term_model.specs.Tree.{Tree}
 use Rattle.term_model.specs.Places.{reads}
 use Rattle.group_model.specs.Division.{IsSteadyOn}
+use Rattle.group_model.proofs.HoldLemmas.{one_truth, same_number}
 use Rattle.group_laws.specs.Groups.{meets, first_with, first_of}
 use Rattle.group_laws.proofs.Lists.{any_here, any_found, Found, contains_first, contains_later}
 
 -- ---- numbers as tests
 
--- numbers that the test finds equal are equal
-pub same_number : (x y : ℕ) → nat_eq x y ≡ true → x ≡ y
-same_number x y e = grind (arith, nat_tests)
-
 -- the test finds a number equal to itself
 pub itself : (x : ℕ) → nat_eq x x ≡ true
 itself x = grind (arith, nat_tests)
-
--- tests that are true together are the same
-pub one_truth : (s t : Bool) → (s ≡ true → t ≡ true) → (t ≡ true → s ≡ true) → s ≡ t
-one_truth true t f g = sym (f refl)
-one_truth false true f g = g refl
-one_truth false false f g = refl
 
 -- ---- ranges
 

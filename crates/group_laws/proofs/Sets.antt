@@ -20,12 +20,12 @@ use Rattle.input_laws.proofs.ByteByByte.{input_with}
 use Rattle.input_laws.proofs.Freed.{filled}
 use Rattle.group_model.specs.declared.Group.{Group}
 use Rattle.group_model.specs.Division.{IsGrouped, AreGroups}
-use Rattle.group_model.proofs.HoldLemmas.{held, passed}
+use Rattle.group_model.proofs.HoldLemmas.{held, passed, same_number, one_truth}
 use Rattle.group_laws.specs.Groups.{first_of, values_beside, values_at, sets_by_groups}
 use Rattle.group_laws.specs.Parts.{IsByConditions}
 use Rattle.group_laws.proofs.Lists.{any_here, all_from, kept_passes, all_agree}
 use Rattle.group_laws.proofs.Groups.{has_condition, places_ascend, group_is_filled, contains_at}
-use Rattle.group_laws.proofs.Firsts.{same_number, itself, one_truth}
+use Rattle.group_laws.proofs.Firsts.{itself}
 use Rattle.group_laws.proofs.Division.{first_of_free, first_of_group}
 use Rattle.group_laws.proofs.Parts.{hold_at, hold_from, group_holds}
 

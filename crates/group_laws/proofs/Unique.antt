@@ -10,9 +10,8 @@ use Rattle.group_model.specs.declared.Group.{Group}
 use Rattle.group_model.specs.Conditions.{IsCondition}
 use Rattle.group_model.specs.Group.{IsGroup, is_among}
 use Rattle.group_model.specs.Division.{AreGroups}
-use Rattle.group_model.proofs.HoldLemmas.{found_among, among_found}
+use Rattle.group_model.proofs.HoldLemmas.{found_among, among_found, one_truth}
 use Rattle.group_laws.proofs.Lists.{all_from, same_lists}
-use Rattle.group_laws.proofs.Firsts.{one_truth}
 use Rattle.group_laws.proofs.Groups.{conditions_are, condition_of, condition_within, group_is_filled, group_is_uncut, place_is_read, places_ascend, reads_within, contains_at}
 
 module _ (trees : List Tree) (terms : List ℕ) (groups others : List Group) (are : AreGroups trees terms groups) (too : AreGroups trees terms others) where

@@ -1,5 +1,5 @@
 -- Conditions that hold of an input, as a test; and what the test looks at.
-use Rattle.std.proofs.Common.{◌≡◌, ℕ, zero, suc, ◌<◌, Bool, true, false, ◌&&◌, List, [], ◌∷◌, length, get_or, refl, arith}
+use Rattle.std.proofs.Common.{◌≡◌, ℕ, zero, suc, ◌<◌, Bool, true, false, ◌&&◌, List, [], ◌∷◌, length, get_or, refl, sym, arith}
 use Rattle.std.specs.Prelude.{Contains, nat_eq}
 use Rattle.std.specs.Cmp.{nat_eq_equiv}
 use Rattle.std.proofs.lemmas.Map.Views.{list_any-from_Contains, Contains-from_any}
@@ -13,8 +13,14 @@ use Rattle.term_model.proofs.PlaceLemmas.{value_follows}
 use Rattle.term_arena.specs.Trees.{tree_of, trees_of}
 use Rattle.group_model.specs.Group.{is_among}
 
+-- tests that are true together are the same
+pub one_truth : (s t : Bool) → (s ≡ true → t ≡ true) → (t ≡ true → s ≡ true) → s ≡ t
+one_truth true t f g = sym (f refl)
+one_truth false true f g = g refl
+one_truth false false f g = refl
+
 -- numbers that the test finds equal are equal
-same_number : (x y : ℕ) → nat_eq x y ≡ true → x ≡ y
+pub same_number : (x y : ℕ) → nat_eq x y ≡ true → x ≡ y
 same_number x y e = grind (arith, nat_tests)
 
 -- where the test passes, each condition has the value 1

@@ -4,13 +4,14 @@ use Rattle.std.specs.Prelude.{Contains, filter, nat_lt, slice_set}
 use Rattle.std.specs.List.{list_all}
 use mathlib.Core.Path.{fun_ext}
 use Rattle.std.proofs.lemmas.List.{set-set, set_comm}
-use Rattle.std.proofs.lemmas.Bool.{and_parts, cases_lt, lt-ltb, ltb-true}
+use Rattle.std.proofs.lemmas.Bool.{and_parts, cases_lt, lt-ltb, ltb-true, or_cases, or_left, or_right}
 use Rattle.std.proofs.lemmas.Bool.Decides.{nat_tests}
 use Rattle.input_laws.specs.Inputs.{bytes}
 use Rattle.input_laws.specs.Sets.{freed}
 use Rattle.input_laws.specs.Narrow.{freed_beside}
 use Rattle.input_laws.proofs.Bound.{bytes_in_range}
 use Rattle.input_laws.proofs.Inputs.{Among, among_bytes, contains_from_among}
+use Rattle.group_model.proofs.HoldLemmas.{one_truth}
 use Rattle.narrow_solve.specs.Tried.{with_pair}
 
 -- the set has those of the wanted values that are below the turn, and of the others wanted ones alone
@@ -24,23 +25,6 @@ same_number x y e = grind (arith, nat_tests)
 itself : (x : ℕ) → (x == x) ≡ true
 itself x = grind (arith, nat_tests)
 
-one_of : (s t : Bool) → (s || t) ≡ true → (s ≡ true) ⊎ (t ≡ true)
-one_of true t e = inl refl
-one_of false t e = inr e
-
-left_of : (s t : Bool) → s ≡ true → (s || t) ≡ true
-left_of true t e = refl
-left_of false t e = absurd (cc)
-
-right_of : (s t : Bool) → t ≡ true → (s || t) ≡ true
-right_of true t e = refl
-right_of false t e = e
-
-one_truth : (s t : Bool) → (s ≡ true → t ≡ true) → (t ≡ true → s ≡ true) → s ≡ t
-one_truth true t f g = sym (f refl)
-one_truth false true f g = g refl
-one_truth false false f g = refl
-
 -- at the start the set has a known value alone
 pub gathered_one : (wanted set : ℕ → Bool) (known : ℕ) → wanted known ≡ true → set ≡ (λ v. v == known) → AreGathered wanted set 0
 gathered_one wanted set known is e = record {
@@ -52,13 +36,13 @@ module _ (wanted set : ℕ → Bool) (turn : ℕ) (so_far : AreGathered wanted s
   -- a wanted value is put into the set
   pub gathered_more : (more : ℕ → Bool) → wanted turn ≡ true → more ≡ (λ v. set v || v == turn) → AreGathered wanted more (turn + 1)
   gathered_more more is e = record {
-    sound = λ v t. elim (one_of (set v) (v == turn) (ap (λ s. s v) (sym e) ∙ t)) [
+    sound = λ v t. elim (or_cases (set v) (v == turn) (ap (λ s. s v) (sym e) ∙ t)) [
       | inl before ↦ so_far.sound v before
       | inr now ↦ let same : v ≡ turn = same_number v turn now in ap wanted same ∙ is
     ];
     complete = λ v l t. ap (λ s. s v) e ∙ elim (cases_lt v turn) [
-      | inl less ↦ left_of (set v) (v == turn) (so_far.complete v less t)
-      | inr more ↦ right_of (set v) (v == turn) (let same : v ≡ turn = omega arith in ap (λ x. x == turn) same ∙ itself turn)
+      | inl less ↦ or_left (set v) (v == turn) (so_far.complete v less t)
+      | inr more ↦ or_right (set v) (v == turn) (let same : v ≡ turn = omega arith in ap (λ x. x == turn) same ∙ itself turn)
     ];
   }
 
