@@ -1,0 +1,8 @@
+pub mod TreeLemmas
+pub mod KeyLemmas
+pub mod PushLemmas
+pub mod SharedLemmas
+pub mod NetLemmas
+pub mod RuleLemmas
+pub mod GrowthLemmas
+pub mod NamedLemmas
