@@ -16,7 +16,8 @@ use Rattle.group_model.specs.Conditions.{IsCondition}
 use Rattle.group_model.specs.Group.{IsAscending}
 use Rattle.group_model.specs.Division.{IsRead, IsGrouped, IsSteadyOn, AreGroups}
 use Rattle.group_model.proofs.HoldLemmas.{one_truth, same_number}
-use Rattle.byte_groups.specs.Reached.{AreReached, IsLeaf}
+use Rattle.reached_terms.specs.Reached.{AreReached}
+use Rattle.byte_groups.specs.Joined.{IsLeaf}
 use Rattle.byte_groups.specs.Labels.{IsSteadyAlong}
 use Rattle.byte_groups.specs.Joined.{HasLeaf, ReadsUpTo, AreLabels}
 use Rattle.byte_groups.specs.Gathered.{is_marked, number_at, lists_of}

@@ -10,10 +10,11 @@ use Rattle.term_model.specs.Tree.{Tree, Apply}
 use Rattle.term_model.specs.Places.{reads}
 use Rattle.term_arena.specs.Trees.{tree_of}
 use Rattle.group_model.specs.Division.{IsSteadyOn}
-use Rattle.byte_groups.specs.Reached.{OperandsPass, AreReached, IsLeaf}
+use Rattle.reached_terms.specs.Reached.{OperandsPass, AreReached}
+use Rattle.byte_groups.specs.Joined.{IsLeaf}
 use Rattle.byte_groups.specs.Joined.{HasLeaf, IsLeafBelow, ReadsUpTo, AreLabels}
 use Rattle.byte_groups.specs.Labels.{AreParents, IsSteadyAlong, JoinTheSame}
-use Rattle.byte_groups.proofs.ReachedLemmas.{operands_under}
+use Rattle.reached_terms.proofs.ReachedLemmas.{operands_under}
 
 either_of : {P : Type 0} (s t : Bool) → (s || t) ≡ true → (s ≡ true → P) → (t ≡ true → P) → P
 either_of true t e h g = h refl

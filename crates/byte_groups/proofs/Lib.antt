@@ -1,6 +1,4 @@
 pub mod LabelLemmas
-pub mod KeyLemmas
-pub mod ReachedLemmas
 pub mod LeafLemmas
 pub mod GatherLemmas
 pub mod DealLemmas

@@ -1,13 +1,17 @@
 -- Labels of places: places that the terms join have one label.
-use Rattle.std.specs.Prelude.{◌≡◌, ℕ, ◌<◌, List, Bool, true, length, slice_index, Contains, IfSome}
+use Rattle.std.specs.Prelude.{◌≡◌, ℕ, ◌<◌, List, Bool, true, false, Option, Some, None, length, slice_index, Contains, IfSome}
 use Rattle.std.specs.Ordering.{nat_cmp}
 use Rattle.std.specs.BTreeMap.{BTreeMap, get}
 use Rattle.term_model.specs.Tree.{Tree}
 use Rattle.term_model.specs.Places.{reads}
 use Rattle.term_arena.specs.Trees.{tree_of}
 use Rattle.group_model.specs.Division.{IsSteadyOn}
-use Rattle.byte_groups.specs.Reached.{IsLeaf}
 use Rattle.byte_groups.specs.Labels.{AreParents, IsSteadyAlong}
+
+-- a place that the tree reads, or none where it reads none
+abbrev pub IsLeaf : Tree → Option ℕ → Type 0
+IsLeaf tree (Some i) = reads tree i ≡ true
+IsLeaf tree None = (i : ℕ) → reads tree i ≡ false
 
 -- the map has a place that the term reads, below a bound, or none where it reads none
 abbrev pub HasLeaf : List Tree → BTreeMap ℕ ℕ → ℕ → Type 0

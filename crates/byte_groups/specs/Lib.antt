@@ -1,4 +1,3 @@
-pub mod Reached
 pub mod Labels
 pub mod Joined
 pub mod Gathered

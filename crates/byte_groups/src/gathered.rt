@@ -4,7 +4,7 @@ ghost use Rattle.std.specs.Prelude.{◌≡◌, ◌<◌, ◌⊎◌, ◌↔◌, �
 ghost use Rattle.term_arena.specs.Trees.{tree_of};
 ghost use Rattle.term_model.specs.Places.{reads};
 ghost use Rattle.byte_groups.specs.Labels.{AreParents};
-ghost use Rattle.byte_groups.specs.Reached.{OperandsPass, AreReached};
+ghost use Rattle.reached_terms.specs.Reached.{OperandsPass, AreReached};
 ghost use Rattle.byte_groups.specs.Joined.{ReadsUpTo};
 ghost use Rattle.byte_groups.specs.Gathered.{ReadsMarked, is_marked, number_at, lists_of, AreGathered};
 

@@ -5,7 +5,8 @@ ghost use Rattle.std.specs.Ordering.{nat_cmp};
 ghost use Rattle.std.specs.BTreeMap.{get};
 ghost use Rattle.term_arena.specs.Trees.{tree_of};
 ghost use Rattle.group_model.specs.Division.{IsSteadyOn};
-ghost use Rattle.byte_groups.specs.Reached.{OperandsPass, AreReached, IsLeaf};
+ghost use Rattle.reached_terms.specs.Reached.{OperandsPass, AreReached};
+ghost use Rattle.byte_groups.specs.Joined.{IsLeaf};
 ghost use Rattle.byte_groups.specs.Labels.{AreParents, IsSteadyAlong};
 ghost use Rattle.byte_groups.specs.Joined.{HasLeaf, IsLeafBelow, AreLabels, ReadsUpTo};
 

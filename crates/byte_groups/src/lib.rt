@@ -9,18 +9,17 @@ mod dealt;
 mod gathered;
 mod joined;
 mod labels;
-mod reached;
 
 ghost use Rattle.std.specs.Prelude.{◌≡◌, All, IfOk};
 ghost use Rattle.group_model.specs.Conditions.{IsCondition};
 ghost use Rattle.group_model.specs.Division.{AreGroups};
-ghost use Rattle.byte_groups.specs.Reached.{AreReached};
+ghost use Rattle.reached_terms.specs.Reached.{AreReached};
 
 use assembled::group_by_labels;
 use gathered::marks_of;
 pub use group_model::{Group, Places, Terms};
 use joined::{labels_of, leaves_of, width_of};
-use reached::reached;
+use reached_terms::reached;
 use std::alloc::{AllocError, Global};
 use std::marker::Model;
 use term_arena::{Arena, Term};

@@ -1,6 +1,6 @@
 use Rattle.std.proofs.Common.{◌≡◌, ℕ, ◌<◌, ◌≤◌, Bool, length, get_or, subst, sym, ◌∙◌, ap, arith, ⊎_elim, inl, inr}
 use Rattle.std.proofs.lemmas.Bool.{cases_lt}
-use Rattle.byte_groups.specs.Reached.{OperandsPass}
+use Rattle.reached_terms.specs.Reached.{OperandsPass}
 use Rattle.byte_groups.specs.Gathered.{ReadsMarked, is_marked}
 use Rattle.byte_groups.specs.Joined.{ReadsUpTo}
 use Rattle.byte_groups.proofs.LeafLemmas.{any_default, by_operands}

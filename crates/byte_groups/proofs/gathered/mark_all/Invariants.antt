@@ -2,7 +2,7 @@ use Rattle.std.proofs.Common.{◌≡◌, ℕ, ◌<◌, Bool, true, get_or}
 use Rattle.std.specs.Prelude.{Contains}
 use Rattle.term_model.specs.Places.{reads}
 use Rattle.term_arena.specs.Trees.{tree_of}
-use Rattle.byte_groups.specs.Reached.{OperandsPass}
+use Rattle.reached_terms.specs.Reached.{OperandsPass}
 use Rattle.byte_groups.specs.Gathered.{is_marked, ReadsMarked}
 use Rattle.byte_groups.proofs.gathered.mark_all.Given as goal
 

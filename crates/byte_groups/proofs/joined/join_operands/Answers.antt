@@ -1,8 +1,8 @@
 use Rattle.std.proofs.Common.{ℕ, ◌<◌, length, Option, subst, sym, arith}
 use Rattle.std.specs.Prelude.{IfSome}
 use Rattle.term_arena.specs.Trees.{tree_of}
-use Rattle.byte_groups.specs.Reached.{IsLeaf}
-use Rattle.byte_groups.proofs.ReachedLemmas.{operands_under}
+use Rattle.byte_groups.specs.Joined.{IsLeaf}
+use Rattle.reached_terms.proofs.ReachedLemmas.{operands_under}
 use Rattle.byte_groups.proofs.LeafLemmas.{steady_right}
 use Rattle.byte_groups.proofs.joined.join_operands.Goals as goal
 

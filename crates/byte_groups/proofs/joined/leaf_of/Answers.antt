@@ -1,6 +1,6 @@
 use Rattle.std.proofs.Common.{ℕ, ◌<◌, Option, subst, sym, arith}
 use Rattle.term_arena.specs.Trees.{tree_of}
-use Rattle.byte_groups.specs.Reached.{IsLeaf}
+use Rattle.byte_groups.specs.Joined.{IsLeaf}
 use Rattle.byte_groups.proofs.LeafLemmas.{leaf_left}
 use Rattle.byte_groups.proofs.joined.leaf_of.Goals as goal
 

@@ -1,6 +1,6 @@
 use Rattle.std.proofs.Common.{◌≡◌, ℕ, ◌<◌, ◌≤◌, get_or, subst, sym, ◌∙◌, ap, arith, ⊎_elim}
 use Rattle.std.proofs.lemmas.Bool.{cases_lt}
-use Rattle.byte_groups.specs.Reached.{OperandsPass}
+use Rattle.reached_terms.specs.Reached.{OperandsPass}
 use Rattle.byte_groups.specs.Joined.{ReadsUpTo}
 use Rattle.byte_groups.proofs.LeafLemmas.{any_default, by_operands}
 use Rattle.byte_groups.proofs.joined.width_of.Goals as goal

@@ -1,5 +1,5 @@
 use Rattle.std.proofs.Common.{ℕ, ◌<◌, ◌≤◌, ◌^◌, get_or}
-use Rattle.byte_groups.specs.Reached.{OperandsPass}
+use Rattle.reached_terms.specs.Reached.{OperandsPass}
 use Rattle.byte_groups.specs.Joined.{ReadsUpTo}
 use Rattle.byte_groups.proofs.joined.width_of.Given as goal
 
