@@ -1,0 +1,5 @@
+pub mod CloserLemmas
+pub mod ReachedLemmas
+pub mod LoopLemmas
+pub mod SolveLemmas
+pub mod OrderLemmas

@@ -1,0 +1,14 @@
+pub mod Values
+pub mod Closing
+pub mod Literals
+pub mod Indices
+pub mod Links
+pub mod Linked
+pub mod Path
+pub mod Told
+pub mod Spans
+pub mod Watching
+pub mod Picked
+pub mod Work
+pub mod Standing
+pub mod Whole
