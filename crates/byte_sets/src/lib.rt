@@ -4,10 +4,14 @@
 //! sets with the same members have equal tests, so each clause is an equation.
 #![tactic(auto)]
 
-ghost use Rattle.std.specs.Prelude.{◌≡◌, ◌*◌, ◌^◌, ◌-◌, ◌<◌, ◌≤◌, ◌==◌, ◌||◌, nat_lt, ℕ, Bool, List, length, map, All, IsTrue};
+mod sets;
+
+ghost use Rattle.std.specs.Prelude.{◌≡◌, ◌↔◌, ◌*◌, ◌^◌, ◌-◌, ◌<◌, ◌≤◌, ◌==◌, ◌||◌, nat_lt, ℕ, Bool, List, length, map, All, IsTrue};
 ghost use Rattle.input_laws.specs.Inputs.{class_size};
 ghost use Rattle.input_laws.specs.Sets.{IsByteSet, IsChoice, size, floor_log2, revealed as revealed_bits};
 ghost use Rattle.byte_sets.specs.ByteSet.{has, set_bytes};
+
+pub use sets::Sets;
 
 /// A set of byte values, as 256 bits: bit `b` of byte `k` stands for the value `8 * k + b`.
 #[derive(Clone, Copy, Debug, PartialEq, Eq)]
@@ -32,6 +36,15 @@ impl ByteSet {
         let mut set = ByteSet { bits: [0; 32] };
         set.insert(value);
         set
+    }
+
+    /// The set with these 256 bits: bit `b` of byte `k` stands for the value `8 * k + b`.
+    pub fn from_bytes(bytes: [u8; 32]) -> ByteSet
+        ensures { set_bytes (has result) ≡ bytes }
+    {
+        ByteSet {
+            bits: array_of(&bytes),
+        }
     }
 
     /// Puts `value` into the set, and keeps the members that it has.
@@ -74,6 +87,15 @@ impl ByteSet {
 pub fn members_are_bytes(set: &ByteSet)
     ensures { IsByteSet (has set.now) }
 {}
+
+/// Two sets with the same members are one value, and `==` answers whether they have the same members.
+pub fn equal_members_are_equal_sets(set: &ByteSet, other: &ByteSet)
+    ensures equal { has set.now ≡ has other.now → set.now ≡ other.now }
+    ensures compared { IsTrue (⟦<ByteSet as PartialEq>⟧.eq set.now other.now) ↔ (has set.now ≡ has other.now) }
+{
+    array_of(&set.bits);
+    array_of(&other.bits);
+}
 
 /// The 32 bytes of a slice as an array, each of them known to be below 256.
 fn array_of(bytes: &[u8]) -> [u8; 32]

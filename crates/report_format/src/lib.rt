@@ -1,15 +1,28 @@
 //! The text of a crash report.
 //!
 //! A [`Report`] says which program crashed and how, and gives an input that crashes it in the same
-//! way, with a set of values for each byte of it. [`write_report`] writes the text line by line.
+//! way, with a set of values for each byte of it. [`write_report`] writes the text line by line,
+//! and [`read_report`] reads it.
 #![tactic(auto)]
 
+mod data;
+mod error;
+mod fields;
+mod forms;
+mod head;
+pub mod laws;
+mod lines;
 mod lists;
+mod reader;
 mod report;
+mod sets;
 mod text;
 
-pub use lists::{Bytes, Sets};
-pub use report::{Report, ranges_allow_writing};
+pub use byte_sets::Sets;
+pub use error::ReadError;
+pub use lists::Bytes;
+pub use reader::read_report;
+pub use report::Report;
 pub use text::write_report;
 
 #[cfg(test)]

@@ -10,7 +10,7 @@ use rv_event::{Trap, TrapKind};
 use std::alloc::{AllocError, Global};
 
 /// The word for a kind of trap.
-fn kind_word(kind: TrapKind) -> &'static str
+pub fn kind_word(kind: TrapKind) -> &'static str
     ensures { result.now ≡ kind_name kind }
 {
     match kind {
@@ -55,7 +55,7 @@ fn format_set(alloc: Global, place: usize, set: &ByteSet) -> Result<String, Allo
     format!(in alloc; "set {place} {size} {digits}")
 }
 
-fn format_revealed(alloc: Global, sets: &[ByteSet], input: &[u8]) -> Result<String, AllocError>
+pub fn format_revealed(alloc: Global, sets: &[ByteSet], input: &[u8]) -> Result<String, AllocError>
     requires filled { All (λ set. 0 < size (has set)) sets.now }
     requires few { length sets.now ≤ 65536 }
     requires one_each { length sets.now ≡ length input.now }
@@ -160,9 +160,6 @@ fn push_tail(alloc: Global, out: &mut Vec<u8>, report: &Report) -> Result<(), Al
 /// `trap KIND PC VALUE`, `steps N`, `seed N`, `input N`, a line `data HEX` for each 32 bytes of the
 /// input, a line `set I SIZE HEX64` for each set that isn't full, `revealed B of T` and `end`.
 pub fn write_report(alloc: Global, report: &Report) -> Result<Bytes, AllocError>
-    requires filled { All (λ set. 0 < size (has set)) report.now.sets }
-    requires few { length report.now.sets ≤ 65536 }
-    requires one_each { length report.now.sets ≡ length report.now.input }
     ensures { IfOk result (λ written. written ≡ text (content_of report.now)) }
 {
     let mut out = Vec::new(alloc);
