@@ -303,7 +303,7 @@ start_within n image = record { registers = λ r. subst (ReadsBelow n) (sym (get
 
 -- a condition that is kept is no constant 1
 proper_if : {IsMade : Tree → Type 0} {made : Making} → IsCarefulMaker made IsMade → ((c : ℕ) → same_tree (Const c) (Const c) ≡ true) → (n : ℕ) (y : List ℕ) (t : Tree) → IsNew IsMade n t → val t y ≡ 1 → same_tree t (Const 1) ≡ false → IsProper n t
-proper_if {IsMade} c itself n y t h e apart = record { truth = by_case h.truth; reads = λ none. not_constant (c.closed t h.made none); within = h.within }
+proper_if {IsMade} c itself n y t h e apart = record { truth = by_case h.truth; words = c.constants t h.made; reads = λ none. not_constant (c.closed t h.made none); within = h.within }
   where
     not_constant : IsConstant t → ⊥
     not_constant (d, is) =

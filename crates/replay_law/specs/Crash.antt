@@ -5,7 +5,7 @@ use Rattle.rv_event.specs.declared.event.End.{End}
 use Rattle.rv_event.specs.declared.event.End.TheVariants as ends
 use Rattle.rv_event.specs.declared.transcript.Transcript.{Transcript}
 use Rattle.term_model.specs.Tree.{Tree}
-use Rattle.term_model.specs.Words.{AreBytes}
+use Rattle.term_model.specs.Words.{HasWords, AreBytes}
 use Rattle.term_model.specs.Places.{ReadsBelow, ReadsNothing}
 use Rattle.term_model.specs.Truth.{is_truth}
 use Rattle.rv_machine.specs.Trace.{transcript_of}
@@ -28,9 +28,10 @@ pub record IsCrash (program : Program) (limit : ℕ) (x : List ℕ) (run : Trans
   pub trace : run ≡ transcript_of program x limit
   pub trapped : IsTrapped run.end
 
--- a truth term that reads some place, and only places below n
+-- a truth term whose constants are words, and which reads some place, and only places below n
 pub record IsProper (n : ℕ) (t : Tree) : Type 0 where
   pub truth : is_truth t ≡ true
+  pub words : HasWords t
   pub reads : ReadsNothing t → ⊥
   pub within : ReadsBelow n t
 

@@ -5,7 +5,7 @@ use Rattle.term_model.specs.declared.Op.{Op}
 use Rattle.term_model.specs.declared.Op.TheVariants.{Alu, Eq, Byte}
 use Rattle.term_model.specs.Tree.{Tree, Const, Input, Apply}
 use Rattle.term_model.specs.Value.{val, op_value}
-use Rattle.term_model.specs.Words.{AreBytes}
+use Rattle.term_model.specs.Words.{HasWords, AreBytes}
 use Rattle.term_model.specs.Places.{ReadsBelow, ReadsNothing}
 use Rattle.term_model.specs.Truth.{is_truth}
 
@@ -43,8 +43,10 @@ IsConstant t = (c : ℕ) × (t ≡ Const c)
 abbrev pub IsTruthOrConstant : Tree → Type 0
 IsTruthOrConstant t = (is_truth t ≡ true) ⊎ IsConstant t
 
--- What is made reads no other places, comparisons are truth terms or constants, and what reads no place is a constant.
+-- What is made has words as constants and reads no other places, comparisons are truth terms or constants, and what reads
+-- no place is a constant.
 pub record IsCarefulMaker (made : Making) (IsMade : Tree → Type 0) : Type 0 where
+  pub constants : (t : Tree) → IsMade t → HasWords t
   pub places : (n : ℕ) (op : Op) (a b : Tree) → ReadsBelow n a → ReadsBelow n b → ReadsBelow n (made op a b)
   pub equals : (a b : Tree) → IsMade a → IsMade b → IsTruthOrConstant (made Eq a b)
   pub less : (a b : Tree) → IsMade a → IsMade b → IsTruthOrConstant (made (Alu Slt) a b)

@@ -39,6 +39,7 @@ norm_maker gives keeps words = record {
 -- from the law of terms that read nothing
 pub norm_careful : ((t : Tree) → IsNormal t → ReadsNothing t → IsConstant t) → IsCarefulMaker norm IsNormal
 norm_careful closed = record {
+  constants = normal_words;
   places = λ n op a b. norm_reads n op a b;
   equals = λ a b h k. norm_truth Eq a b tt;
   less = λ a b h k. norm_truth (Alu Slt) a b tt;

@@ -39,7 +39,8 @@ pub fn conditions_hold_of_the_class()
     same_transcripts_are_equal();
 }
 
-/// Each condition of a run that a trap ended is a truth term that reads some byte of the input, and only such bytes.
+/// Each condition of a run that a trap ended is a truth term whose constants are words, and which reads
+/// some byte of the input, and only such bytes.
 pub fn conditions_are_proper()
     ensures proper { (program : Program) (limit : ℕ) (x : List ℕ) (run : runs.Transcript) →
         IsProgram program → IsCrash program limit x run →
