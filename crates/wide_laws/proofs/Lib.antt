@@ -1,0 +1,11 @@
+pub mod Forcing
+pub mod Models
+pub mod Digits
+pub mod Joined
+pub mod First
+pub mod Sets
+pub mod Names
+pub mod Freed
+pub mod Kept
+pub mod RootLemmas
+pub mod WideLemmas

@@ -1,0 +1,4 @@
+pub mod Formula
+pub mod Bytes
+pub mod Sets
+pub mod Roots

@@ -1,0 +1,10 @@
+pub mod FixedLemmas
+pub mod GatherLemmas
+pub mod GroupLemmas
+pub mod JoinLemmas
+pub mod OrderLemmas
+pub mod RootLemmas
+pub mod SearchLemmas
+pub mod SetLemmas
+pub mod TestLemmas
+pub mod ValueLemmas

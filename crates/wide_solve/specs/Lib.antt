@@ -1,0 +1,4 @@
+pub mod Tied
+pub mod Gates
+pub mod Agreeing
+pub mod Tests
