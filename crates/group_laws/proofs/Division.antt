@@ -23,7 +23,7 @@ use Rattle.group_laws.proofs.Groups.{reads_within, condition_of, places_ascend, 
 -- ---- lists of numbers
 
 -- a range ascends
-range_ascends : (n : ℕ) → IsAscending (range_with_len 0 n)
+pub range_ascends : (n : ℕ) → IsAscending (range_with_len 0 n)
 range_ascends n i j d less inside =
     let l : j < n = rw (length-range_with_len 0 n) at inside in
     let a : get_or (range_with_len 0 n) i d ≡ 0 + i = get_or-range_with_len 0 n i d (omega arith) in
@@ -45,10 +45,10 @@ pub tree_is_there : (trees : List Tree) (terms : List ℕ) (t : ℕ) → Contain
 tree_is_there trees terms t c = contains_map (tree_of trees) terms t c
 
 -- a place is read by the trees where it is by the conditions
-read_by_trees : (trees : List Tree) (terms : List ℕ) (i : ℕ) → IsRead trees terms i → list_any (λ t. reads t i) (trees_of trees terms) ≡ true
+pub read_by_trees : (trees : List Tree) (terms : List ℕ) (i : ℕ) → IsRead trees terms i → list_any (λ t. reads t i) (trees_of trees terms) ≡ true
 read_by_trees trees terms i r = any_here (λ t. reads t i) (trees_of trees terms) (tree_of trees r.0) (tree_is_there trees terms r.0 r.1) r.2
 
-read_by_terms : (trees : List Tree) (terms : List ℕ) (i : ℕ) → list_any (λ t. reads t i) (trees_of trees terms) ≡ true → IsRead trees terms i
+pub read_by_terms : (trees : List Tree) (terms : List ℕ) (i : ℕ) → list_any (λ t. reads t i) (trees_of trees terms) ≡ true → IsRead trees terms i
 read_by_terms trees terms i e =
     let f : Found (λ t. reads t i) (trees_of trees terms) = any_found (λ t. reads t i) (trees_of trees terms) e in
     let t = map_item (tree_of trees) terms f.item f.inside in
@@ -104,7 +104,7 @@ module _ (trees : List Tree) (terms : List ℕ) (groups : List Group) (are : Are
         omega arith
 
     -- the places of a group are those with its first place
-    group_is : (g : Group) → Contains groups g → group_with (trees_of trees terms) n (slice_index g.places 0) ≡ g.places
+    pub group_is : (g : Group) → Contains groups g → group_with (trees_of trees terms) n (slice_index g.places 0) ≡ g.places
     group_is g cg =
         let cs : List Tree = trees_of trees terms in
         let least : ℕ = slice_index g.places 0 in

@@ -5,6 +5,4 @@ pub mod Division
 pub mod Unique
 pub mod Reading
 pub mod Parts
-pub mod Sets
 pub mod Stays
-pub mod Choices

@@ -1,11 +1,9 @@
--- The groups of places that conditions tie together, and the values that each place of an input may take, from the
--- conditions alone. The places are those below n, and a group is told by the first of its places.
-use Rattle.std.specs.Prelude.{ℕ, ◌==◌, ◌&&◌, Bool, List, [], ◌∷◌, nat_eq, nat_lt, length, map, filter, find, unwrap_or, if◌then◌else◌}
+-- The groups of places that conditions tie together, from the conditions alone. The places are those below n, and a group
+-- is told by the first of its places.
+use Rattle.std.specs.Prelude.{ℕ, ◌&&◌, Bool, List, [], ◌∷◌, nat_eq, nat_lt, length, map, filter, find, unwrap_or, if◌then◌else◌}
 use Rattle.std.specs.List.{list_any, range_with_len}
 use Rattle.term_model.specs.Tree.{Tree}
 use Rattle.term_model.specs.Places.{reads}
-use Rattle.input_laws.specs.Sets.{freed}
-use Rattle.input_laws.specs.Narrow.{freed_beside}
 
 -- the condition reads a place of the group that has place i
 abbrev pub meets : (ℕ → ℕ) → ℕ → Tree → ℕ → Bool
@@ -35,15 +33,3 @@ groups_of conditions n = map (group_with conditions n) (filter (begins_group con
 -- some group has more than two places
 abbrev pub has_wide_group : List Tree → ℕ → Bool
 has_wide_group conditions n = list_any (λ places. nat_lt 2 (length places)) (groups_of conditions n)
-
--- The values of place i of y: with the others as they are, where it is the first of its group, and else beside every value
--- of the first.
-abbrev pub values_beside : (List ℕ → Bool) → List ℕ → ℕ → ℕ → ℕ → Bool
-values_beside member y first i = if first == i then freed member y i else freed_beside member (freed member y first) y first i
-
-unfoldable pub values_at : (List ℕ → Bool) → List Tree → List ℕ → ℕ → ℕ → Bool
-values_at member conditions y i = values_beside member y (first_of conditions (length y) i) i
-
--- a set of values for each place of y, where no group has more than two places
-abbrev pub sets_by_groups : (List ℕ → Bool) → List Tree → List ℕ → List (ℕ → Bool)
-sets_by_groups member conditions y = map (values_at member conditions y) (range_with_len 0 (length y))

@@ -1,6 +1,5 @@
 //! Laws on the groups of conditions, and laws that join them to the whole input: the groups are the
-//! one finest division; where each group has its first bytes the input is the first member; and the
-//! sets of values of each group are those that follow from the conditions alone.
+//! one finest division, and where each group has its first bytes the input is the first member.
 //!
 //! In each law `terms` are the conditions, as terms of an arena whose trees are `trees`, `groups`
 //! are their groups, and `member` is a test of inputs that passes exactly where the conditions
@@ -8,24 +7,22 @@
 //! function where its own proof needs the law.
 #![tactic(auto)]
 
-ghost use Rattle.std.specs.Prelude.{◌≡◌, ◌*◌, ◌^◌, ◌<◌, ◌≤◌, ◌≢◌, ◌↔◌, ℕ, Bool, List, true, false, Some, length, slice_index, slice_index_or, map, nat_lt, IsTrue, All, Contains};
+ghost use Rattle.std.specs.Prelude.{◌≡◌, ◌^◌, ◌<◌, ◌≤◌, ◌≢◌, ◌↔◌, ℕ, Bool, List, true, Some, length, slice_index, slice_index_or, map, nat_lt, All, Contains};
 ghost use Rattle.std.specs.List.{list_any};
 ghost use Rattle.term_model.specs.Tree.{Tree};
 ghost use Rattle.term_model.specs.Places.{reads, ReadsBelow};
 ghost use Rattle.term_model.specs.Words.{AreBytes};
-ghost use Rattle.term_model.specs.Conditions.{Hold, holds};
+ghost use Rattle.term_model.specs.Conditions.{Hold};
 ghost use Rattle.term_arena.specs.Trees.{tree_of, trees_of};
-ghost use Rattle.input_laws.specs.Inputs.{IsInput, class_size};
+ghost use Rattle.input_laws.specs.Inputs.{IsInput};
 ghost use Rattle.input_laws.specs.Order.{IsFirst, first};
-ghost use Rattle.input_laws.specs.Sets.{IsChoice, size, set_at, freed, revealed};
-ghost use Rattle.input_laws.specs.Narrow.{freed_beside};
 ghost use Rattle.input_laws.specs.Parts.{LooksAtItsPlaces, IsByParts, IsFree};
 ghost use Rattle.group_model.specs.declared.Group.{Group};
 ghost use Rattle.group_model.specs.Conditions.{IsCondition};
 ghost use Rattle.group_model.specs.Group.{IsGroup};
 ghost use Rattle.group_model.specs.Division.{IsGrouped, IsSteadyOn, AreGroups};
-ghost use Rattle.group_laws.specs.Groups.{first_of, groups_of, has_wide_group, values_at, sets_by_groups};
-ghost use Rattle.group_laws.specs.Parts.{IsByConditions, parts_of, HasFirst, HasSets};
+ghost use Rattle.group_laws.specs.Groups.{first_of, groups_of, has_wide_group};
+ghost use Rattle.group_laws.specs.Parts.{IsByConditions, parts_of, HasFirst};
 
 /// The first places of groups, as the conditions alone give them, divide the places below n as
 /// finely as can be: a group's first place is the least and its own, the places that a condition
@@ -114,91 +111,12 @@ pub fn first_by_groups()
         IsInput n mask → IsFirst n mask member y → first mask member ≡ Some y }
 {}
 
-/// The values of each place of a member, from the conditions alone, are all bytes where no group
-/// has the place. The first place of a group has those that meet the group's conditions with the
-/// other bytes as they are, and the higher of two has those that meet them beside every value of
-/// the lower.
-pub fn values_by_groups()
-    ensures free { (trees : List Tree) (terms : List ℕ) (groups : List Group) (n : ℕ) (y : List ℕ) (member : List ℕ → Bool) (i : ℕ) →
-        AreGroups trees terms groups →
-        IsByConditions n member (trees_of trees terms) →
-        IsInput n y → IsTrue (member y) →
-        i < n → (IsGrouped groups i → ⊥) →
-        values_at member (trees_of trees terms) y i ≡ (λ v. nat_lt v 256) }
-    ensures first { (trees : List Tree) (terms : List ℕ) (groups : List Group) (n : ℕ) (y : List ℕ) (member : List ℕ → Bool) (g : Group) →
-        AreGroups trees terms groups →
-        All (λ t. ReadsBelow n (tree_of trees t)) terms →
-        IsByConditions n member (trees_of trees terms) →
-        IsInput n y → IsTrue (member y) →
-        Contains groups g →
-        let i = slice_index g.places 0 in
-        values_at member (trees_of trees terms) y i ≡ freed (holds (trees_of trees g.conditions)) y i }
-    ensures second { (trees : List Tree) (terms : List ℕ) (groups : List Group) (n : ℕ) (y : List ℕ) (member : List ℕ → Bool) (g : Group) →
-        AreGroups trees terms groups →
-        All (λ t. ReadsBelow n (tree_of trees t)) terms →
-        IsByConditions n member (trees_of trees terms) →
-        IsInput n y → IsTrue (member y) →
-        Contains groups g → length g.places ≡ 2 →
-        let test = holds (trees_of trees g.conditions) in
-        let low = slice_index g.places 0 in
-        let high = slice_index g.places 1 in
-        values_at member (trees_of trees terms) y high ≡ freed_beside test (freed test y low) y low high }
-{}
-
-/// Where no group has more than two places, sets that are full at the places of no group, and at
-/// those of each group follow from its conditions, are those that the conditions alone give.
-pub fn sets_are_by_groups()
-    ensures { (trees : List Tree) (terms : List ℕ) (groups : List Group) (n : ℕ) (y : List ℕ) (member : List ℕ → Bool) (sets : List (ℕ → Bool)) →
-        AreGroups trees terms groups →
-        All (λ t. ReadsBelow n (tree_of trees t)) terms →
-        All (λ g. length g.places ≤ 2) groups →
-        IsByConditions n member (trees_of trees terms) →
-        IsInput n y → IsTrue (member y) →
-        length sets ≡ n →
-        ((i : ℕ) → i < n → (IsGrouped groups i → ⊥) → set_at sets i ≡ (λ v. nat_lt v 256)) →
-        All (HasSets trees y sets) groups →
-        sets ≡ sets_by_groups member (trees_of trees terms) y }
-{}
-
 /// What a group has at its places stays where nothing changes but at the places of another group.
 pub fn other_groups_stay()
-    ensures firsts { (trees : List Tree) (terms : List ℕ) (groups : List Group) (mask y z : List ℕ) (j k : ℕ) (d : Group) →
+    ensures { (trees : List Tree) (terms : List ℕ) (groups : List Group) (mask y z : List ℕ) (j k : ℕ) (d : Group) →
         AreGroups trees terms groups →
         j < length groups → k < length groups → j ≢ k →
         HasFirst trees mask y (slice_index_or groups j d) →
         ((i : ℕ) → (Contains (slice_index_or groups k d).places i → ⊥) → slice_index z i ≡ slice_index y i) →
         HasFirst trees mask z (slice_index_or groups j d) }
-    ensures sets { (trees : List Tree) (terms : List ℕ) (groups : List Group) (y : List ℕ) (sets others : List (ℕ → Bool)) (j k : ℕ) (d : Group) →
-        AreGroups trees terms groups →
-        j < length groups → k < length groups → j ≢ k →
-        HasSets trees y sets (slice_index_or groups j d) →
-        ((i : ℕ) → (Contains (slice_index_or groups k d).places i → ⊥) → set_at others i ≡ set_at sets i) →
-        HasSets trees y others (slice_index_or groups j d) }
-{}
-
-/// The sets of a member have its own bytes, so none is empty.
-pub fn sets_have_own_bytes()
-    ensures own { (conditions : List Tree) (n : ℕ) (y : List ℕ) (member : List ℕ → Bool) →
-        IsInput n y → IsTrue (member y) →
-        IsChoice (sets_by_groups member conditions y) y }
-    ensures filled { (conditions : List Tree) (n : ℕ) (y : List ℕ) (member : List ℕ → Bool) →
-        IsInput n y → IsTrue (member y) →
-        All (λ set. 0 < size set) (sets_by_groups member conditions y) }
-{}
-
-/// Where no group has more than two places, every choice from the sets of a member is a member, so
-/// the sets bound the size of the class.
-pub fn choices_from_sets()
-    ensures choices { (conditions : List Tree) (n : ℕ) (y : List ℕ) (member : List ℕ → Bool) →
-        All (ReadsBelow n) conditions →
-        has_wide_group conditions n ≡ false →
-        IsByConditions n member conditions →
-        IsInput n y → IsTrue (member y) →
-        (z : List ℕ) → IsChoice (sets_by_groups member conditions y) z → IsTrue (member z) }
-    ensures bound { (conditions : List Tree) (n : ℕ) (y : List ℕ) (member : List ℕ → Bool) →
-        All (ReadsBelow n) conditions →
-        has_wide_group conditions n ≡ false →
-        IsByConditions n member conditions →
-        IsInput n y → IsTrue (member y) →
-        256 ^ n ≤ class_size member n * 2 ^ revealed (sets_by_groups member conditions y) }
 {}

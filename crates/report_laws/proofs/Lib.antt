@@ -1,0 +1,6 @@
+pub mod MaskLemmas
+pub mod FileLemmas
+pub mod ClassLemmas
+pub mod ConditionLemmas
+pub mod LawLemmas
+pub mod GroupLemmas

@@ -1,0 +1,4 @@
+pub mod Mask
+pub mod Made
+pub mod Divided
+pub mod Filled
