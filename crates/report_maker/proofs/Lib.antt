@@ -1,5 +1,3 @@
-pub mod MaskLemmas
-pub mod FilledLemmas
-pub mod MadeLemmas
-pub mod ClassLemmas
-pub mod LawLemmas
+mod PutLemmas
+mod FilledLemmas
+mod MadeLemmas

@@ -1,4 +1,2 @@
-pub mod Mask
-pub mod Made
-pub mod Filled
-pub mod Divided
+pub mod Counted
+pub mod Errors

@@ -3,10 +3,12 @@
 
 mod error;
 mod fill;
-pub mod laws;
+mod lists;
 mod maker;
 mod mask;
+mod put;
 
 pub use error::MakeError;
+pub use lists::Bytes;
 pub use maker::{Made, make_report};
 pub use mask::order_mask;

@@ -9,9 +9,7 @@ use Rattle.rv_event.specs.declared.transcript.Transcript.{Transcript}
 use Rattle.rv_machine.specs.Trace.{transcript_of}
 use Rattle.term_model.specs.Words.{AreBytes}
 use Rattle.term_model.proofs.ByteLemmas.{bytes_within}
-use Rattle.replay_law.specs.Crash.{IsTrapped}
-use Rattle.report_maker.specs.Made.{IsCrashBy}
-use Rattle.report_maker.proofs.MadeLemmas.{same_program}
+use Rattle.replay_law.specs.Crash.{IsTrapped, IsCrash}
 
 -- a trace has its input's length
 length-told : (program : Program) (x : List ℕ) (limit : ℕ) (t : Transcript) → t ≡ transcript_of program x limit → t.n ≡ length x
@@ -26,16 +24,16 @@ trapped (ends.Trap t) trap is = tt
 trapped (ends.Exit code) trap is = cc
 trapped ends.Limit trap is = cc
 
-crash : (p x : List ℕ) (limit : ℕ) (t : Transcript) (trap : Trap) → AreBytes x → t ≡ transcript_of (image_of p) x limit → t.end ≡ ends.Trap trap → IsCrashBy (image_of p) t trap
-crash p x limit t trap bytes is end = record {
-  limit = limit;
-  input = x;
-  crash = record { input = record { long = sym (length-told (image_of p) x limit t is); in_range = bytes_within x bytes }; trace = is; trapped = trapped t.end trap end };
-  trapped = end;
-}
+crash : (p x : List ℕ) (limit : ℕ) (t : Transcript) (trap : Trap) → AreBytes x → t ≡ transcript_of (image_of p) x limit → t.end ≡ ends.Trap trap → IsCrash (image_of p) limit x t
+crash p x limit t trap bytes is end =
+    record { input = record { long = sym (length-told (image_of p) x limit t is); in_range = bytes_within x bytes }; trace = is; trapped = trapped t.end trap end }
+
+-- the program of the file's image
+same_program : (image : Image) (p : List ℕ) → image.entry ≡ (image_of p).entry → image.segments ≡ (image_of p).segments → program_of image ≡ image_of p
+same_program image p entry segments = λ i. record { entry = entry i; segments = segments i }
 
 -- a run of a file's image on an input, ended by a trap, is a crash of the file's program
 pub crash-of-image : (p x : List ℕ) (limit : ℕ) (image : Image) (t : Transcript) (trap : Trap) → AreBytes x → image.entry ≡ (image_of p).entry → image.segments ≡ (image_of p).segments
-    → t ≡ transcript_of (program_of image) x limit → t.end ≡ ends.Trap trap → IsCrashBy (image_of p) t trap
+    → t ≡ transcript_of (program_of image) x limit → t.end ≡ ends.Trap trap → (limit : ℕ) × (x : List ℕ) × IsCrash (image_of p) limit x t
 crash-of-image p x limit image t trap bytes is_entry is_segments is end =
-    crash p x limit t trap bytes (subst (λ program. t ≡ transcript_of program x limit) (same_program image p is_entry is_segments) is) end
+    (limit, x, crash p x limit t trap bytes (subst (λ program. t ≡ transcript_of program x limit) (same_program image p is_entry is_segments) is) end)

@@ -1,14 +1,16 @@
 //! What a report is expected to say.
 
 use byte_sets::{ByteSet, revealed};
-use report_format::write_report;
+use report_format::{read_report, write_report};
 use report_maker::Made;
 use rv_event::{Trap, TrapKind};
-use std::alloc::{AllocError, Global};
+use std::alloc::Global;
 use std::process::Abort;
+use std::test::Fail;
 
-/// The place of a byte, and the lowest and the highest of its values, which are all between these.
-pub(crate) type Range = (usize, u32, u32);
+/// The place of a byte, the lowest and the highest of its values, and the bits that all its values share.
+/// Each value between that shares them is one.
+pub(crate) type Values = (usize, u32, u32, u32);
 
 /// A program and an input, and what the report says.
 #[derive(Clone, Copy)]
@@ -21,11 +23,13 @@ pub(crate) struct Case {
     /// The input in place of the original.
     pub first: &'static [u8],
     /// The sets that aren't full.
-    pub sets: &'static [Range],
+    pub sets: &'static [Values],
     /// The bits of the input that are revealed.
     pub revealed: u32,
     /// How many groups of bytes there are.
     pub groups: u32,
+    /// How many conflicts the searches for the first bytes count.
+    pub conflicts: u64,
 }
 
 /// The trap of an EBREAK.
@@ -37,24 +41,27 @@ pub(crate) fn breakpoint(pc: u32) -> Trap {
     }
 }
 
-/// Whether a set has just the values from the lowest to the highest.
-pub(crate) fn is_range(set: &ByteSet, lowest: u32, highest: u32) -> bool {
-    (0..256u32).all(|value| set.contains(value as u8) == (lowest <= value && value <= highest))
+/// Whether a set has just the values from the lowest to the highest that share bits with the lowest.
+pub(crate) fn has_values(set: &ByteSet, lowest: u32, highest: u32, shared: u32) -> bool {
+    (0..256u32).all(|value| {
+        set.contains(value as u8)
+            == (lowest <= value && value <= highest && (value ^ lowest) & shared == 0)
+    })
 }
 
-/// The lowest and the highest value of the byte at a place.
-fn range_at(ranges: &[Range], place: usize) -> (u32, u32) {
-    match ranges.iter().find(|range| range.0 == place) {
-        Some(range) => (range.1, range.2),
-        None => (0, 255),
+/// The lowest and the highest value of the byte at a place, and the bits that are shared.
+fn values_at(values: &[Values], place: usize) -> (u32, u32, u32) {
+    match values.iter().find(|values| values.0 == place) {
+        Some(values) => (values.1, values.2, values.3),
+        None => (0, 255, 0),
     }
 }
 
-/// Whether the sets are these, and all others are full.
-fn are_sets(sets: &[ByteSet], ranges: &[Range]) -> bool {
+/// Whether the sets have these values, and all others are full.
+fn are_sets(sets: &[ByteSet], values: &[Values]) -> bool {
     for place in 0..sets.len() {
-        let (lowest, highest) = range_at(ranges, place);
-        if !is_range(&sets[place], lowest, highest) {
+        let (lowest, highest, shared) = values_at(values, place);
+        if !has_values(&sets[place], lowest, highest, shared) {
             return false;
         }
     }
@@ -79,20 +86,20 @@ pub(crate) fn expect(rt: &impl Abort, made: &Made, case: &Case) {
     assert!(rt; are_sets(report.sets.as_slice(), case.sets));
     expect_revealed(rt, report.sets.as_slice(), case.revealed);
     assert_eq!(rt; made.groups, case.groups);
+    assert_eq!(rt; made.conflicts, case.conflicts);
 }
 
-/// Asserts that a report has this text.
+/// Asserts that a report has this text, and is read from it.
 pub(crate) fn expect_text(
     rt: &impl Abort,
     alloc: Global,
     made: &Made,
     text: &[u8],
-) -> Result<(), AllocError> {
-    let sets = made.report.sets.as_slice();
-    assert!(rt; sets.iter().all(|set| set.size() > 0));
-    assert!(rt; sets.len() <= 65_536);
-    assert_eq!(rt; sets.len(), made.report.input.as_slice().len());
+) -> Result<(), Fail> {
     let written = write_report(alloc, &made.report)?;
     assert_eq!(rt; written.as_slice(), text);
+    let read = read_report(alloc, text)?;
+    let again = write_report(alloc, &read)?;
+    assert_eq!(rt; again.as_slice(), text);
     Ok(())
 }

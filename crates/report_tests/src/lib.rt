@@ -9,3 +9,5 @@ mod make;
 mod programs;
 #[cfg(test)]
 mod tests;
+#[cfg(test)]
+mod wide;

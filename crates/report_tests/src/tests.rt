@@ -1,22 +1,19 @@
-use crate::case::{Case, breakpoint, expect, expect_revealed, expect_text, is_range};
-use crate::make::{made_of, made_of_file};
-use crate::programs::{EACH_BYTE, THREE_TIMES};
-use report_maker::MakeError;
-use rv_assemble::Region;
+use crate::case::{Case, breakpoint, expect, expect_revealed, expect_text, has_values};
+use crate::make::{BUDGET, made_of, made_of_file};
+use crate::programs::EACH_BYTE;
 use rv_event::{Trap, TrapKind};
 use std::alloc::Global;
 use std::process::Abort;
 use std::test::Fail;
 use test_programs::words::{
-    BELOW_TEN, BRANCH_TO_THE_NEXT, COMPARE_WORD, DIVIDE, EBREAK, EQUAL_PAIR, JOINED_TRIPLE,
-    JUMP_TO_TWO, LOAD_X0, MARKED_BYTES, OVERFLOW, PAIRS_AND_A_BYTE, RISING_PAIR, RUN_THE_INPUT,
-    SUM_OF_TWO,
+    BELOW_TEN, BRANCH_TO_THE_NEXT, COMPARE_WORD, DIVIDE, EBREAK, EQUAL_PAIR, JUMP_TO_TWO, LOAD_X0,
+    MARKED_BYTES, OVERFLOW, PAIRS_AND_A_BYTE, RISING_PAIR, RUN_THE_INPUT, SUM_OF_TWO,
 };
 use test_programs::{program_file, zeros};
 
 /// Asserts that the report of a case's program says what the case says.
-fn meets(rt: &impl Abort, alloc: Global, case: &Case) -> Result<(), Fail> {
-    let made = made_of(alloc, case.words, &[], case.input, case.seed)??;
+pub(crate) fn meets(rt: &impl Abort, alloc: Global, case: &Case) -> Result<(), Fail> {
+    let made = made_of(alloc, case.words, &[], case.input, case.seed, BUDGET)??;
     expect(rt, &made, case);
     Ok(())
 }
@@ -39,9 +36,10 @@ fn single_bytes(rt: HostRuntime) -> Result<(), Fail> {
             trap: breakpoint(0x1_0024),
             steps: 8,
             first: b"\x00",
-            sets: &[(0, 0, 9)],
+            sets: &[(0, 0, 9, 0)],
             revealed: 5,
             groups: 1,
+            conflicts: 0,
         },
         Case {
             words: &DIVIDE,
@@ -50,9 +48,10 @@ fn single_bytes(rt: HostRuntime) -> Result<(), Fail> {
             trap: breakpoint(0x1_002c),
             steps: 10,
             first: b"\x00",
-            sets: &[(0, 0, 0)],
+            sets: &[(0, 0, 0, 0)],
             revealed: 8,
             groups: 1,
+            conflicts: 0,
         },
         Case {
             words: &COMPARE_WORD,
@@ -62,13 +61,14 @@ fn single_bytes(rt: HostRuntime) -> Result<(), Fail> {
             steps: 9,
             first: b"xV4\x12",
             sets: &[
-                (0, 0x78, 0x78),
-                (1, 0x56, 0x56),
-                (2, 0x34, 0x34),
-                (3, 0x12, 0x12),
+                (0, 0x78, 0x78, 0),
+                (1, 0x56, 0x56, 0),
+                (2, 0x34, 0x34, 0),
+                (3, 0x12, 0x12, 0),
             ],
             revealed: 32,
             groups: 4,
+            conflicts: 0,
         },
         Case {
             words: &OVERFLOW,
@@ -82,13 +82,14 @@ fn single_bytes(rt: HostRuntime) -> Result<(), Fail> {
             steps: 10,
             first: &OVERFLOWN,
             sets: &[
-                (28, 0x60, 0x61),
-                (29, 0x61, 0x61),
-                (30, 0x61, 0x61),
-                (31, 0x61, 0x61),
+                (28, 0x60, 0x61, 0),
+                (29, 0x61, 0x61, 0),
+                (30, 0x61, 0x61, 0),
+                (31, 0x61, 0x61, 0),
             ],
             revealed: 31,
             groups: 4,
+            conflicts: 0,
         },
     ];
     for case in &cases {
@@ -108,9 +109,10 @@ fn pairs_of_bytes(rt: HostRuntime) -> Result<(), Fail> {
             trap: breakpoint(0x1_002c),
             steps: 10,
             first: b"\x00d",
-            sets: &[(0, 0, 0), (1, 100, 100)],
+            sets: &[(0, 0, 0, 0), (1, 100, 100, 0)],
             revealed: 16,
             groups: 1,
+            conflicts: 0,
         },
         Case {
             words: &RISING_PAIR,
@@ -119,9 +121,10 @@ fn pairs_of_bytes(rt: HostRuntime) -> Result<(), Fail> {
             trap: breakpoint(0x1_0024),
             steps: 8,
             first: b"\x00\x01",
-            sets: &[(0, 0, 0), (1, 1, 255)],
+            sets: &[(0, 0, 0, 0), (1, 1, 255, 0)],
             revealed: 9,
             groups: 1,
+            conflicts: 0,
         },
         Case {
             words: &EQUAL_PAIR,
@@ -130,9 +133,10 @@ fn pairs_of_bytes(rt: HostRuntime) -> Result<(), Fail> {
             trap: breakpoint(0x1_0024),
             steps: 8,
             first: b"\x00\x00",
-            sets: &[(0, 0, 0), (1, 0, 0)],
+            sets: &[(0, 0, 0, 0), (1, 0, 0, 0)],
             revealed: 16,
             groups: 1,
+            conflicts: 0,
         },
         Case {
             words: &PAIRS_AND_A_BYTE,
@@ -141,9 +145,16 @@ fn pairs_of_bytes(rt: HostRuntime) -> Result<(), Fail> {
             trap: breakpoint(0x1_003c),
             steps: 14,
             first: b"\x00\x00\x00\x01\x00\x00\x00",
-            sets: &[(0, 0, 0), (1, 0, 0), (3, 1, 255), (4, 0, 0), (5, 0, 9)],
+            sets: &[
+                (0, 0, 0, 0),
+                (1, 0, 0, 0),
+                (3, 1, 255, 0),
+                (4, 0, 0, 0),
+                (5, 0, 9, 0),
+            ],
             revealed: 30,
             groups: 3,
+            conflicts: 0,
         },
     ];
     for case in &cases {
@@ -166,6 +177,7 @@ fn bytes_that_show_nothing(rt: HostRuntime) -> Result<(), Fail> {
             sets: &[],
             revealed: 0,
             groups: 0,
+            conflicts: 0,
         },
         Case {
             words: &LOAD_X0,
@@ -181,6 +193,7 @@ fn bytes_that_show_nothing(rt: HostRuntime) -> Result<(), Fail> {
             sets: &[],
             revealed: 0,
             groups: 0,
+            conflicts: 0,
         },
         Case {
             words: &JUMP_TO_TWO,
@@ -196,6 +209,7 @@ fn bytes_that_show_nothing(rt: HostRuntime) -> Result<(), Fail> {
             sets: &[],
             revealed: 0,
             groups: 0,
+            conflicts: 0,
         },
     ];
     for case in &cases {
@@ -220,6 +234,7 @@ fn the_order_of_a_seed(rt: HostRuntime) -> Result<(), Fail> {
             sets: &[],
             revealed: 0,
             groups: 0,
+            conflicts: 0,
         },
         Case {
             words: &SUM_OF_TWO,
@@ -228,9 +243,10 @@ fn the_order_of_a_seed(rt: HostRuntime) -> Result<(), Fail> {
             trap: breakpoint(0x1_002c),
             steps: 10,
             first: b"d\x00",
-            sets: &[(0, 100, 100), (1, 0, 0)],
+            sets: &[(0, 100, 100, 0), (1, 0, 0, 0)],
             revealed: 16,
             groups: 1,
+            conflicts: 0,
         },
         Case {
             words: &MARKED_BYTES,
@@ -239,9 +255,10 @@ fn the_order_of_a_seed(rt: HostRuntime) -> Result<(), Fail> {
             trap: breakpoint(0x1_0030),
             steps: 11,
             first: b"\xe6\x0b\xa7A\xee\xf3\xbc\x0dQG\xdf\xca",
-            sets: &[(3, 65, 65), (7, 0, 15)],
+            sets: &[(3, 65, 65, 0), (7, 0, 15, 0)],
             revealed: 12,
             groups: 2,
+            conflicts: 0,
         },
         Case {
             words: &PAIRS_AND_A_BYTE,
@@ -251,14 +268,15 @@ fn the_order_of_a_seed(rt: HostRuntime) -> Result<(), Fail> {
             steps: 14,
             first: b"\xe6\x0b\xa73\xe6\x03\xbc",
             sets: &[
-                (0, 0xe6, 0xe6),
-                (1, 0, 50),
-                (3, 51, 255),
-                (4, 0xe6, 0xe6),
-                (5, 0, 9),
+                (0, 0xe6, 0xe6, 0),
+                (1, 0, 50, 0),
+                (3, 51, 255, 0),
+                (4, 0xe6, 0xe6, 0),
+                (5, 0, 9, 0),
             ],
             revealed: 25,
             groups: 3,
+            conflicts: 0,
         },
     ];
     for case in &cases {
@@ -287,7 +305,14 @@ end
 fn bytes_that_are_fetched(rt: HostRuntime) -> Result<(), Fail> {
     let alloc = rt.alloc();
     let regions = [zeros(alloc, 0x2_0000, 4, 7)];
-    let made = made_of(alloc, &RUN_THE_INPUT, &regions, &[0x73, 0, 0x10, 0], 0)??;
+    let made = made_of(
+        alloc,
+        &RUN_THE_INPUT,
+        &regions,
+        &[0x73, 0, 0x10, 0],
+        0,
+        BUDGET,
+    )??;
     expect_text(&rt, alloc, &made, FETCHED)?;
     assert_eq!(rt; made.groups, 4);
     Ok(())
@@ -311,7 +336,7 @@ fn a_word_that_is_illegal(rt: HostRuntime) -> Result<(), Fail> {
     assert_eq!(rt; file.len(), 88);
     file.truncate(84);
     file.extend_from_slice(&[0; 4])?;
-    let made = made_of_file(alloc, file.as_slice(), &[], 0)??;
+    let made = made_of_file(alloc, file.as_slice(), &[], 0, BUDGET)??;
     expect_text(&rt, alloc, &made, ILLEGAL)?;
     assert_eq!(rt; made.groups, 0);
     Ok(())
@@ -332,26 +357,8 @@ end
 #[test]
 fn the_text_of_a_seed(rt: HostRuntime) -> Result<(), Fail> {
     let alloc = rt.alloc();
-    let made = made_of(alloc, &BRANCH_TO_THE_NEXT, &[], b"U", 1)??;
+    let made = made_of(alloc, &BRANCH_TO_THE_NEXT, &[], b"U", 1, BUDGET)??;
     expect_text(&rt, alloc, &made, OF_A_SEED)?;
-    Ok(())
-}
-
-/// Whether no report is made since more than two bytes are joined.
-fn is_wide(alloc: Global, words: &[u32], regions: &[Region], input: &[u8]) -> Result<bool, Fail> {
-    let made = made_of(alloc, words, regions, input, 0)?;
-    Ok(matches!(made, Err(MakeError::Wide)))
-}
-
-/// Three bytes are joined, by tests of two at a time or by one word.
-#[test]
-fn three_bytes_joined(rt: HostRuntime) -> Result<(), Fail> {
-    let alloc = rt.alloc();
-    let regions = [zeros(alloc, 0x2_0000, 3, 6)];
-    for input in [[0xff, 0xff, 0xff], [1, 0, 1], [0xfd, 0xfe, 3]] {
-        assert!(rt; is_wide(alloc, &JOINED_TRIPLE, &regions, &input)?);
-        assert!(rt; is_wide(alloc, &THREE_TIMES, &[], &input)?);
-    }
     Ok(())
 }
 
@@ -370,7 +377,7 @@ fn a_large_input(rt: HostRuntime) -> Result<(), Fail> {
     let alloc = rt.alloc();
     let input = large_input(alloc)?;
     let regions = [zeros(alloc, 0x2_0000, 4096, 6)];
-    let made = made_of(alloc, &EACH_BYTE, &regions, input.as_slice(), 0)??;
+    let made = made_of(alloc, &EACH_BYTE, &regions, input.as_slice(), 0, BUDGET)??;
     let (first, sets) = (made.report.input.as_slice(), made.report.sets.as_slice());
     assert_eq!(rt; made.groups, 4096);
     assert_eq!(rt; made.report.steps, 22_535);
@@ -380,7 +387,7 @@ fn a_large_input(rt: HostRuntime) -> Result<(), Fail> {
     for i in 0..4096 {
         let lowest = if input[i] < 128 { 0 } else { 128 };
         assert_eq!(rt; u32::from(first[i]), lowest);
-        assert!(rt; is_range(&sets[i], lowest, lowest + 127));
+        assert!(rt; has_values(&sets[i], lowest, lowest + 127, 0));
     }
     expect_revealed(&rt, sets, 4096);
     Ok(())

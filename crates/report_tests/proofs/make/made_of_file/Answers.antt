@@ -9,5 +9,5 @@ make_report-requires-clause-few c =
 
 pub make_report-requires-clause-traced : goal.make_report-requires-clause-traced
 make_report-requires-clause-traced c =
-    crash-of-image _ c.args.input.now _ c.in_ok-image.image _ c.in-Trap.trap (λ i. let fits = c.type_inv.input i in omega (arith, fits)) c.in_ok-image.ensures.accepted.entry
+    crash-of-image _ c.args.input.now _ c.in_ok-image.image _ c.in-Trap.field-0 (λ i. let fits = c.type_inv.input i in omega (arith, fits)) c.in_ok-image.ensures.accepted.entry
     c.in_ok-image.ensures.accepted.segments c.in_ok-transcript.ensures.run c.in-Trap.is

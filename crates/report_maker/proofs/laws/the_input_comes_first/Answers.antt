@@ -1,5 +1,0 @@
-use Rattle.report_maker.proofs.ClassLemmas.{input_comes_first, input_has_trace}
-use Rattle.report_maker.proofs.laws.the_input_comes_first.Goals as goal
-
-pub returns : goal.returns
-returns c = record { first = input_comes_first; same_trace = input_has_trace }

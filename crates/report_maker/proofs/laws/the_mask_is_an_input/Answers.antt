@@ -1,5 +1,0 @@
-use Rattle.report_maker.proofs.MaskLemmas.{mask_is_input}
-use Rattle.report_maker.proofs.laws.the_mask_is_an_input.Goals as goal
-
-pub returns : goal.returns
-returns c = mask_is_input
