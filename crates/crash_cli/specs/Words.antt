@@ -1,8 +1,114 @@
--- What the words after the program's name ask for.
-use Rattle.std.specs.Prelude.{ℕ, List, [], ◌∷◌, codes, Option, Some, None, if◌then◌else◌}
+-- What the words after the program's name ask for, as `clap` reads them.
+use Rattle.std.specs.Prelude.{◌≡◌, ◌≤◌, ℕ, List, [], ◌∷◌, codes, true, Option, Some, None, option_map, nat_le, ◌&&◌, if◌then◌else◌}
 use Rattle.std.specs.Str.{bytes_eq}
+use Rattle.std.specs.Str.Parse.{digits_value}
+use Rattle.std.specs.Fmt.{decimal}
+use Rattle.clap.specs.Words.{App, Rule, Row, Kinds, first_of, matches_of, fault_of, new_app, new_rule, with_rule}
+use Rattle.clap.specs.Simple.{on_top}
+use Rattle.crash_cli.specs.declared.command.Raw.{Raw}
+use Rattle.crash_cli.specs.declared.words.Action.{Action}
+use Rattle.crash_cli.specs.declared.words.Action.TheVariants.{Make as ToMake, Run, Replay, Check, Demo}
 use Rattle.crash_cli.specs.declared.words.Options.{Options}
 use Rattle.crash_cli.specs.declared.words.Make.{Make}
+
+-- ---- the command
+
+-- a required text
+abbrev pub text_rule : List ℕ → Rule
+text_rule name = record (new_rule name) { required = true }
+
+-- an option that takes one text
+abbrev pub option_rule : List ℕ → Rule
+option_rule name = record (new_rule name) { long = Some name }
+
+abbrev pub bare : App
+bare = on_top (λ s. record s { no_binary_name = true }) (new_app (codes "crash_cli"))
+
+-- ACTION FIRST SECOND [--seed N] [--steps N] [--conflicts N]
+unfoldable pub tool : App
+tool = with_rule (with_rule (with_rule (with_rule (with_rule (with_rule bare (text_rule (codes "ACTION"))) (text_rule (codes "FIRST"))) (text_rule (codes "SECOND")))
+    (option_rule (codes "seed"))) (option_rule (codes "steps"))) (option_rule (codes "conflicts"))
+
+-- the texts that the words give
+pub record Texts : Type 0 where
+  pub action : List ℕ
+  pub first : List ℕ
+  pub second : List ℕ
+  pub seed : Option (List ℕ)
+  pub steps : Option (List ℕ)
+  pub conflicts : Option (List ℕ)
+
+abbrev pub texts_with : Option (List ℕ) → Option (List ℕ) → Option (List ℕ) → List Row → Option Texts
+texts_with (Some action) (Some first) (Some second) rows = Some (record {
+  action = action;
+  first = first;
+  second = second;
+  seed = first_of (codes "seed") rows;
+  steps = first_of (codes "steps") rows;
+  conflicts = first_of (codes "conflicts") rows;
+})
+texts_with _ _ _ rows = None
+
+abbrev pub texts_in : List Row → Option Texts
+texts_in rows = texts_with (first_of (codes "ACTION") rows) (first_of (codes "FIRST") rows) (first_of (codes "SECOND") rows) rows
+
+abbrev pub unless : Kinds → Option Texts → Option Texts
+unless [] texts = texts
+unless (kind ∷ kinds) texts = None
+
+-- the texts of words that the command takes
+unfoldable pub texts_of : List (List ℕ) → Option Texts
+texts_of words = unless (fault_of tool words) (texts_in (matches_of tool words))
+
+-- the same of the texts as they lie in memory
+abbrev pub raw_texts : Raw → Texts
+raw_texts raw = record {
+  action = raw.action.now;
+  first = raw.first.now;
+  second = raw.second.now;
+  seed = option_map (λ text. text.now) raw.seed;
+  steps = option_map (λ text. text.now) raw.steps;
+  conflicts = option_map (λ text. text.now) raw.conflicts;
+}
+
+-- ---- numbers
+
+-- the number that a text is the decimal text of, where it is within the range
+abbrev pub number_of : ℕ → ℕ → List ℕ → Option ℕ
+number_of least most text =
+    let number = digits_value 10 text in
+    if bytes_eq text (decimal number) && (nat_le least number && nat_le number most) then Some number else None
+
+-- the same, with a default where there is no text
+abbrev pub number_or : ℕ → ℕ → ℕ → Option (List ℕ) → Option ℕ
+number_or default least most None = Some default
+number_or default least most (Some text) = number_of least most text
+
+abbrev pub options_with : Option ℕ → Option ℕ → Option ℕ → Option Options
+options_with (Some seed) (Some steps) (Some conflicts) = Some (record { seed = seed; steps = steps; conflicts = conflicts })
+options_with _ _ _ = None
+
+-- seed 0, 1,000,000 steps and 10,000 conflicts, where the words give no other number
+abbrev pub options_of : Texts → Option Options
+options_of texts = options_with (number_or 0 0 18446744073709551615 texts.seed) (number_or 1000000 1 10000000 texts.steps) (number_or 10000 1 1000000 texts.conflicts)
+
+-- 1 to 10,000,000 steps, and 1 to 1,000,000 conflicts
+pub record AreWithin (options : Options) : Type 0 where
+  pub some_steps : 1 ≤ options.steps
+  pub steps : options.steps ≤ 10000000
+  pub some_conflicts : 1 ≤ options.conflicts
+  pub conflicts : options.conflicts ≤ 1000000
+
+-- ---- actions
+
+abbrev pub action_of : List ℕ → Option Action
+action_of text =
+    if bytes_eq text (codes "make") then Some ToMake
+    else if bytes_eq text (codes "run") then Some Run
+    else if bytes_eq text (codes "replay") then Some Replay
+    else if bytes_eq text (codes "check") then Some Check
+    else if bytes_eq text (codes "demo") then Some Demo
+    else None
 
 -- a report is to be made: the names of its two files, and the options
 pub record MakeWords : Type 0 where
@@ -10,16 +116,19 @@ pub record MakeWords : Type 0 where
   pub input : List ℕ
   pub options : Options
 
--- seed 0 and 1,000,000 steps
-abbrev pub defaults : Options
-defaults = record { seed = 0; steps = 1000000 }
+-- of the actions this one is built
+abbrev pub make_with : Texts → Option Action → Option Options → Option MakeWords
+make_with texts (Some ToMake) (Some options) = Some (record { program = texts.first; input = texts.second; options = options })
+make_with texts _ _ = None
 
--- exactly the three words `make PROGRAM INPUT`
-abbrev pub make_of : List (List ℕ) → Option MakeWords
-make_of (action ∷ program ∷ input ∷ []) =
-    if bytes_eq action (codes "make") then Some (record { program = program; input = input; options = defaults }) else None
-make_of _ = None
+abbrev pub make_in : Option Texts → Option MakeWords
+make_in None = None
+make_in (Some texts) = make_with texts (action_of texts.action) (options_of texts)
+
+-- what the words ask for, where they ask for a report
+unfoldable pub make_of : List (List ℕ) → Option MakeWords
+make_of words = make_in (texts_of words)
 
 -- the same of the words as they lie in memory
 abbrev pub make_value : Make → MakeWords
-make_value m = record { program = m.program.now; input = m.input.now; options = m.options }
+make_value make = record { program = make.program.now; input = make.input.now; options = make.options }

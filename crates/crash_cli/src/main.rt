@@ -6,6 +6,7 @@
 #![tactic(auto)]
 
 pub mod answer;
+mod command;
 pub mod laws;
 mod outcome;
 mod say;
@@ -14,19 +15,50 @@ mod tests;
 pub mod tool;
 pub mod words;
 
-use fault_io::{HostFolder, HostSink};
-use std::process::ExitCode;
-use std::{env, io};
+ghost use Rattle.std.specs.Prelude.{◌≡◌, ◌↔◌, ◌⊎◌};
 
-fn main(rt: HostRuntime) -> io::Result<ExitCode> {
-    let alloc = rt.alloc();
-    let mut words = Vec::new(alloc);
-    for word in env::args(&rt)?.skip(1) {
-        words.push(word)?;
+use answer::{Answer, Refusal};
+use fault_io::{HostFolder, HostSink};
+use std::env;
+use std::io::ErrorKind;
+use std::process::ExitCode;
+
+/// Why the words can't be had: those that are not UTF-8 are no command.
+fn refusal_of(kind: ErrorKind) -> Refusal
+    ensures usage { result ≡ Refusal.Usage ↔ (kind ≡ ErrorKind.InvalidData) }
+    ensures either { (result ≡ Refusal.Usage) ⊎ (result ≡ Refusal.NoMemory) }
+{
+    match kind {
+        ErrorKind::InvalidData => Refusal::Usage,
+        _ => Refusal::NoMemory,
     }
-    let mut folder = HostFolder::new(rt.clone()?);
+}
+
+fn main(rt: HostRuntime) -> ExitCode {
+    let alloc = rt.alloc();
     let mut out = HostSink::new(rt.stdout());
     let mut err = HostSink::new(rt.stderr());
-    let status = tool::run_tool(alloc, words.as_slice(), &mut folder, &mut out, &mut err);
-    Ok(ExitCode::from(status))
+    let mut words = Vec::new(alloc);
+    let mut refusal = None;
+    match env::args(&rt) {
+        Ok(args) => {
+            for word in args.skip(1) {
+                if words.push(word).is_err() {
+                    refusal = Some(Refusal::NoMemory);
+                    break;
+                }
+            }
+        }
+        Err(error) => refusal = Some(refusal_of(error.kind())),
+    }
+    let files: Result<_, _> = rt.clone();
+    let status = match (refusal, files) {
+        (None, Ok(files)) => {
+            let mut folder = HostFolder::new(files);
+            tool::run_tool(alloc, words.as_slice(), &mut folder, &mut out, &mut err)
+        }
+        (Some(refusal), _) => say::say(&mut out, &mut err, &Answer::Refused(refusal)),
+        (None, Err(_)) => say::say(&mut out, &mut err, &Answer::Refused(Refusal::NoMemory)),
+    };
+    ExitCode::from(status)
 }

@@ -1,12 +1,14 @@
 //! Whole calls over files and sinks in memory. The digests are those of `sha256sum`.
 
+mod order;
 mod reports;
+mod words;
 
 use crate::tool::run_tool;
-use fault_io::{Bytes, FetchFault, Fetched, FileList, Folder, MemSink, NamedFile, SteadyFolder};
+use fault_io::{Bytes, FileList, Folder, MemFolder, MemSink, NamedFile, ReadList, SteadyFolder};
 use std::alloc::{AllocError, Global};
 use std::test::Fail;
-use test_programs::words::{EBREAK, NOP};
+use test_programs::words::{COMPARE, EBREAK, NOP};
 use test_programs::{ProgramError, program_file};
 
 /// addi x17,x0,93, and the ECALL of an exit
@@ -257,11 +259,13 @@ fn words_that_are_no_command(rt: HostRuntime) -> Result<(), Fail> {
     let mut folder = folder(alloc, program(alloc, &[EBREAK])?, Vec::new(alloc))?;
     let said = call(alloc, &[], &mut folder, 4096, 4096)?;
     assert!(rt; is_said(&said, 2, b"", USAGE));
-    let said = call(alloc, &["make", "p"], &mut folder, 4096, 4096)?;
-    assert!(rt; is_said(&said, 2, b"", USAGE));
-    let said = call(alloc, &["run", "p", "x"], &mut folder, 4096, 4096)?;
-    assert!(rt; is_said(&said, 2, b"", USAGE));
-    let said = call(alloc, &["make", "p", "x", "x"], &mut folder, 4096, 4096)?;
+    let said = call(
+        alloc,
+        &["make", "p", "x", "--steps", "007"],
+        &mut folder,
+        4096,
+        4096,
+    )?;
     assert!(rt; is_said(&said, 2, b"", USAGE));
     Ok(())
 }
@@ -290,45 +294,24 @@ fn an_err_that_fills_up(rt: HostRuntime) -> Result<(), Fail> {
     Ok(())
 }
 
-/// A folder that tells nothing: its first fetch gives the program, and every later one fails.
-#[derive(Drop)]
-struct FailingFolder {
-    program: Vec<u8>,
-    fetched: bool,
-    faults: u64,
-}
-
-impl Folder for FailingFolder {
-    ghost use Rattle.std.specs.Prelude.{None};
-
-    ghost files = { λ _. None };
-
-    ghost faults = { λ folder. folder.faults };
-
-    fn fetch(&mut self, alloc: Global, _name: &str, limit: u32) -> Result<Fetched, FetchFault> {
-        if self.fetched {
-            self.faults = self.faults.saturating_add(1);
-            return Err(FetchFault::Failed);
-        }
-        self.fetched = true;
-        if self.program.len() > limit as usize {
-            return Ok(Fetched::TooLong);
-        }
-        Ok(Fetched::Whole(Bytes::from_vec(self.program.as_slice().to_vec(alloc)?)))
-    }
-}
-
+/// The fourth read of the program and the second of the input are the ends of the files.
 #[test]
 fn a_read_that_fails(rt: HostRuntime) -> Result<(), Fail> {
     let alloc = rt.alloc();
-    let mut folder = FailingFolder {
-        program: program(alloc, &[EBREAK])?,
-        fetched: false,
-        faults: 0,
-    };
-    let said = call(alloc, &["make", "p", "x"], &mut folder, 4096, 4096)?;
-    assert!(rt; is_said(&said, 3, b"", b"cannot read input\n"));
-    let said = call(alloc, &["make", "p", "x"], &mut folder, 4096, 4096)?;
-    assert!(rt; is_said(&said, 3, b"", b"cannot read program\n"));
+    for read in 1..=7u64 {
+        let mut files = Vec::new(alloc);
+        files.push(named(alloc, "p", program(alloc, &COMPARE)?)?)?;
+        files.push(named(alloc, "x", b"Azzz".to_vec(alloc)?)?)?;
+        let failing = ReadList::from_vec(vec![in alloc; read; 1]?);
+        let mut folder = MemFolder::new(FileList::from_vec(files), 50, failing);
+        let said = call(alloc, &["make", "p", "x"], &mut folder, 4096, 4096)?;
+        if read <= 4 {
+            assert!(rt; is_said(&said, 3, b"", b"cannot read program\n"));
+        } else if read <= 6 {
+            assert!(rt; is_said(&said, 3, b"", b"cannot read input\n"));
+        } else {
+            assert!(rt; said.status == 0);
+        }
+    }
     Ok(())
 }

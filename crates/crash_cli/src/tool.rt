@@ -1,14 +1,15 @@
 //! The top call: from words and files to a status, a text on out and a line on err.
 
-ghost use Rattle.std.specs.Prelude.{◌≡◌, ◌≢◌, ◌↔◌, ℕ, ◌≤◌, List, map, length, Option, None, Some, IfSome, IfOk, IfErr};
+ghost use Rattle.std.specs.Prelude.{◌≡◌, ◌≢◌, ◌⊎◌, ℕ, ◌≤◌, List, map, length, Option, None, Some, IfSome, IfOk, IfErr};
 ghost use Rattle.std.specs.String.{string_bytes};
 ghost use Rattle.fault_io.specs.Faults.{Rose, NoFault};
-ghost use Rattle.crash_cli.specs.Refusals.{status, out_of, err_of, IsLineOf};
-ghost use Rattle.crash_cli.specs.Words.{make_of, make_value};
+ghost use Rattle.crash_cli.specs.Refusals.{status, out_of, err_of, IsLineOf, IsGiven};
+ghost use Rattle.crash_cli.specs.Words.{make_of, make_value, AreWithin};
 ghost use Rattle.crash_cli.specs.Outcome.{told_answer, answer_to, made, outcome, trace, read_of};
-ghost use Rattle.crash_cli.specs.Call.{change, Gives, TakesLine, TakesNothing, Takes, TakesPrefix, HasFault, HasNoFault, IsReadFault, IsTrueBut, IsReadBut, IsCannotRead, IsStatusBut};
+ghost use Rattle.crash_cli.specs.Call.{change, Gives, TakesLine, TakesNothing, Takes, TakesPrefix, HasFault, HasNoFault, IsReadFault, IsTrueBut, IsReadBut, IsCannotRead, IsStatusBut, IsAnswer};
 
 use crate::answer::{Answer, Refusal, Role};
+use crate::command::WordsError;
 use crate::outcome::outcome;
 use crate::say::say;
 use crate::words::{Make, read_words};
@@ -36,6 +37,7 @@ fn read<F: Folder>(
     ensures untold { F.files folder.old ≡ None →
         IfErr result (λ e. IsCannotRead e → Rose (F.faults folder.old) (F.faults folder.new)) }
     ensures no_usage { IfErr result (λ e. e ≢ Refusal.Usage) }
+    ensures given { IfErr result IsGiven }
     ensures within { IfOk result (λ bytes. length bytes ≤ limit) }
 {
     match folder.fetch(alloc, name, limit) {
@@ -48,13 +50,16 @@ fn read<F: Folder>(
 }
 
 /// The answer to `make`: the program is read first, and the input only where the program was read.
+#[tactic(auto, using(crate::proofs::CallLemmas::of_files))]
 fn answer_make<F: Folder>(alloc: Global, make: &Make, folder: &mut F) -> Answer
+    requires options { AreWithin make.now.options }
     ensures files { F.files folder.new ≡ F.files folder.old }
     ensures counts { F.faults folder.old ≤ F.faults folder.new }
     ensures told { IfSome (F.files folder.old) (λ held.
         IsTrueBut (made (make_value make.now) held) (Rose (F.faults folder.old) (F.faults folder.new)) result) }
     ensures untold { F.files folder.old ≡ None → IsReadFault result → Rose (F.faults folder.old) (F.faults folder.new) }
     ensures no_usage { result ≢ Answer.Refused Refusal.Usage }
+    ensures given { IsAnswer result }
 {
     let program = match read(alloc, folder, make.program, Role::Program, PROGRAM_LIMIT) {
         Ok(program) => program,
@@ -77,15 +82,20 @@ fn decide<F: Folder>(alloc: Global, words: &[String], folder: &mut F) -> Answer
     ensures told { IfSome (F.files folder.old) (λ held.
         IsTrueBut (answer_to (make_of (map string_bytes words.now)) held) (Rose (F.faults folder.old) (F.faults folder.new)) result) }
     ensures untold { F.files folder.old ≡ None → IsReadFault result → Rose (F.faults folder.old) (F.faults folder.new) }
-    ensures usage { result ≡ Answer.Refused Refusal.Usage ↔ (make_of (map string_bytes words.now) ≡ None) }
+    ensures usage { result ≡ Answer.Refused Refusal.Usage → make_of (map string_bytes words.now) ≡ None }
+    ensures words { make_of (map string_bytes words.now) ≡ None →
+        (result ≡ Answer.Refused Refusal.Usage) ⊎ (result ≡ Answer.Refused Refusal.NoMemory) }
+    ensures given { IsAnswer result }
 {
-    match read_words(words) {
-        None => Answer::Refused(Refusal::Usage),
-        Some(make) => answer_make(alloc, &make, folder),
+    match read_words(alloc, words) {
+        Ok(make) => answer_make(alloc, &make, folder),
+        Err(WordsError::Usage) => Answer::Refused(Refusal::Usage),
+        Err(WordsError::NoMemory) => Answer::Refused(Refusal::NoMemory),
     }
 }
 
-/// Does all that the program does, and answers its status.
+/// Does all that the program does, and answers its status. Every crash is served: a report comes
+/// of it, or status 9 where the bytes of one group spend the conflicts of `--conflicts`.
 ///
 /// `words` are the words after the program's name. At status 0 the text is on `out` and nothing on
 /// `err`. At any other status one line is put on `err`, and nothing is on `out` but at status 4,
@@ -100,7 +110,8 @@ pub fn run_tool<F: Folder, O: Sink, E: Sink>(
     err: &mut E,
 ) -> u8
     // Each status has its cause.
-    ensures words { result ≡ 2 ↔ (make_of (map string_bytes words.now) ≡ None) }
+    ensures usage { result ≡ 2 → make_of (map string_bytes words.now) ≡ None }
+    ensures words { make_of (map string_bytes words.now) ≡ None → (result ≡ 2) ⊎ (result ≡ 1) }
     ensures read { result ≡ 3 → F.files folder.old ≡ None → Rose (F.faults folder.old) (F.faults folder.new) }
     ensures write { result ≡ 4 → HasFault (change O.holds O.faults out.old out.new) }
     ensures told { IfSome (told_answer (map string_bytes words.now) (F.files folder.old)) (λ answer.
@@ -126,6 +137,11 @@ pub fn run_tool<F: Folder, O: Sink, E: Sink>(
         result ≢ 1 → NoFault (F.faults folder.old) (F.faults folder.new) →
         HasNoFault (change O.holds O.faults out.old out.new) → HasNoFault (change E.holds E.faults err.old err.new) →
         Gives answer (change O.holds O.faults out.old out.new) (change E.holds E.faults err.old err.new) result) }
+
+    // The folder keeps its files, and no count of faults falls.
+    ensures files { F.files folder.new ≡ F.files folder.old }
+    ensures counts { (F.faults folder.old ≤ F.faults folder.new) × (O.faults out.old ≤ O.faults out.new)
+        × (E.faults err.old ≤ E.faults err.new) }
 
     // And where both files are held, it is what program, options, input length and trace fix.
     ensures headline { IfSome (make_of (map string_bytes words.now)) (λ make. IfSome (F.files folder.old) (λ held. (p x : List ℕ) →

@@ -5,6 +5,7 @@ ghost use Rattle.fault_io.specs.Files.{Files, answer_for, IsWithin, file_of};
 use crate::Bytes;
 use std::alloc::{AllocError, Global};
 use std::marker::Model;
+use thiserror::Error;
 
 /// What a fetch found.
 #[derive(Debug, Drop)]
@@ -18,10 +19,12 @@ pub enum Fetched {
 }
 
 /// Why a fetch gave no answer.
-#[derive(Clone, Copy, Debug, PartialEq, Eq)]
+#[derive(Clone, Copy, Debug, PartialEq, Eq, Error)]
 pub enum FetchFault {
     /// The file could not be opened, or a read failed. The folder counted it.
+    #[error("a file cannot be read")]
     Failed,
+    #[error("no memory")]
     NoMemory,
 }
 
@@ -150,7 +153,7 @@ impl Folder for SteadyFolder {
 }
 
 /// The first file of this name.
-fn find_file<'a>(files: &'a [NamedFile], name: &str) -> Option<&'a NamedFile>
+pub(crate) fn find_file<'a>(files: &'a [NamedFile], name: &str) -> Option<&'a NamedFile>
     ensures { option_map (λ file. file.now.bytes) result ≡ file_of files.now name.now }
 {
     files

@@ -1,12 +1,13 @@
-ghost use Rattle.std.specs.Prelude.{◌≡◌, ◌≢◌, ◌^◌, ◌<◌, ◌≤◌, None, Some, length, take, IfOk, IfSome, OnOk, OnErr};
+ghost use Rattle.std.specs.Prelude.{◌≡◌, ◌≢◌, ◌^◌, ◌<◌, ◌≤◌, None, length, take, IfOk, OnOk, OnErr};
 ghost use Rattle.std.specs.Io.KnownBytes.{Appends};
 ghost use Rattle.fault_io.specs.Faults.{raised};
-ghost use Rattle.fault_io.specs.Files.{answer_for, IsWithin};
+ghost use Rattle.fault_io.specs.Files.{IsWithin};
 
-use crate::{Bytes, Failed, FetchFault, Fetched, Folder, Sink};
+use crate::source::fetch_opened;
+use crate::{Failed, FetchFault, Fetched, Folder, Sink};
 use std::alloc::Global;
-use std::fs::{self, OpenFile};
-use std::io::{Read, Write};
+use std::fs;
+use std::io::Write;
 use std::marker::Model;
 use std::rt::Files;
 
@@ -48,38 +49,12 @@ impl<R: Files + Drop> Folder for HostFolder<R> {
         ensures quiet { result ≢ Err FetchFault.Failed → self.new ≡ self.old }
         ensures counts { self.old ≤ self.new }
     {
-        let fetched = match fs::open(&self.rt, name) {
-            Ok(mut file) => read_up_to(alloc, &mut file, limit),
-            Err(_) => Err(FetchFault::Failed),
-        };
+        let fetched = fetch_opened(alloc, fs::open(&self.rt, name), limit);
         if let Err(FetchFault::Failed) = &fetched {
             self.failed = self.failed.saturating_add(1);
         }
         fetched
     }
-}
-
-/// What a reader has left, in at most `limit + 1` reads. A read that gives no bytes is the end.
-fn read_up_to<R: Read>(alloc: Global, reader: &mut R, limit: u32) -> Result<Fetched, FetchFault>
-    ensures told { IfSome (R.remaining reader.old) (λ left.
-        IfOk result (λ answer. answer ≡ answer_for (Some left) limit)) }
-    ensures within { IfOk result (IsWithin limit) }
-    ensures found { result ≢ Ok Fetched.Missing }
-{
-    let most = limit as usize;
-    let mut bytes = Vec::new(alloc);
-    let mut buffer = [0u8; 4096];
-    while bytes.len() <= most {
-        let room = (most + 1 - bytes.len()).min(4096);
-        let Ok(count) = reader.read(&mut buffer[..room]) else {
-            return Err(FetchFault::Failed);
-        };
-        if count == 0 {
-            return Ok(Fetched::Whole(Bytes::from_vec(bytes)));
-        }
-        bytes.extend_from_slice(&buffer[..count])?;
-    }
-    Ok(Fetched::TooLong)
 }
 
 /// A stream of the system, flushed at each piece. A contract sees the count of faults, and the

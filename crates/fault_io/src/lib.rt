@@ -9,11 +9,14 @@
 mod bytes;
 mod folder;
 mod host;
+mod mem_folder;
 mod sink;
+mod source;
 
 pub use bytes::Bytes;
 pub use folder::{FetchFault, Fetched, FileList, Folder, NamedFile, SteadyFolder};
 pub use host::{HostFolder, HostSink};
+pub use mem_folder::{MemFolder, ReadList};
 pub use sink::{Failed, MemSink, Sink};
 
 #[cfg(test)]

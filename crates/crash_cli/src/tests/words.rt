@@ -1,0 +1,187 @@
+//! Words that are a command, and words that are not.
+
+use super::{call, folder, is_said, long_program, program};
+use crate::command::WordsError;
+use crate::words::{Options, read_words};
+use std::alloc::{AllocError, Global};
+use std::test::Fail;
+use test_programs::words::{BRANCH_TO_THE_NEXT, EBREAK};
+
+/// What the words of a line, parted by spaces, ask for: the two names and the options.
+fn asked(alloc: Global, line: &str) -> Result<Option<(String, String, Options)>, AllocError> {
+    let mut words = Vec::new(alloc);
+    for word in line.split(' ') {
+        let word = if word == "''" { "" } else { word };
+        words.push(word.to_string(alloc)?)?;
+    }
+    match read_words(alloc, words.as_slice()) {
+        Ok(make) => Ok(Some((
+            make.program.to_string(alloc)?,
+            make.input.to_string(alloc)?,
+            make.options,
+        ))),
+        Err(WordsError::Usage) => Ok(None),
+        Err(WordsError::NoMemory) => Err(AllocError),
+    }
+}
+
+#[test]
+fn words_that_are_a_command(rt: HostRuntime) -> Result<(), Fail> {
+    let alloc = rt.alloc();
+    let cases = [
+        ("make p x", "p", "x", 0, 1_000_000, 10_000),
+        ("make '' x", "", "x", 0, 1_000_000, 10_000),
+        (
+            "make p x --seed 18446744073709551615",
+            "p",
+            "x",
+            u64::MAX,
+            1_000_000,
+            10_000,
+        ),
+        ("make --seed=5 p --steps 1 x", "p", "x", 5, 1, 10_000),
+        (
+            "--conflicts 1000000 make p x --steps=10000000",
+            "p",
+            "x",
+            0,
+            10_000_000,
+            1_000_000,
+        ),
+        (
+            "make --seed 7 -- --seed --steps",
+            "--seed",
+            "--steps",
+            7,
+            1_000_000,
+            10_000,
+        ),
+        ("make - x", "-", "x", 0, 1_000_000, 10_000),
+    ];
+    for (line, program, input, seed, steps, conflicts) in cases {
+        let Some(make) = asked(alloc, line)? else {
+            assert!(rt; false, "{line}");
+            return Ok(());
+        };
+        assert_eq!(rt; make.0.as_str(), program, "{line}");
+        assert_eq!(rt; make.1.as_str(), input, "{line}");
+        assert_eq!(rt; make.2.seed, seed, "{line}");
+        assert_eq!(rt; make.2.steps, steps, "{line}");
+        assert_eq!(rt; make.2.conflicts, conflicts, "{line}");
+    }
+    Ok(())
+}
+
+#[test]
+fn words_that_are_no_command(rt: HostRuntime) -> Result<(), Fail> {
+    let lines = [
+        "make",
+        "make p",
+        "make p x y",
+        "run p x",
+        "replay p x",
+        "check p x",
+        "demo single 3",
+        "help p x",
+        "Make p x",
+        "make p x --seed 18446744073709551616",
+        "make p x --steps 10000001",
+        "make p x --steps 0",
+        "make p x --steps 007",
+        "make p x --conflicts 0",
+        "make p x --conflicts 1000001",
+        "make p x --seed",
+        "make p x --seed 1 --seed 1",
+        "make p x --seed=",
+        "make p x --seed ''",
+        "make p x --seed +1",
+        "make p x --see 1",
+        "make -p x",
+        "make p x --help",
+        "make p x -h",
+        "--version",
+        "make p x -V",
+        "make p x --seed -1",
+        "make p x --unknown 1",
+    ];
+    for line in lines {
+        assert!(rt; asked(rt.alloc(), line)?.is_none(), "{line}");
+    }
+    Ok(())
+}
+
+/// The seed is in the report, and gives the values of bytes that nothing tests.
+#[test]
+fn a_report_under_a_seed(rt: HostRuntime) -> Result<(), Fail> {
+    let alloc = rt.alloc();
+    let report = b"crash-report 1
+program 112 e6baf64eb7baf8702d1a3129866ecba6720ec7b824ad5a43cf9bfaab186b4f40
+trap breakpoint 00010018 00000000
+steps 7
+seed 1
+input 1
+data e6
+revealed 0 of 8
+end
+";
+    let branch = program(alloc, &BRANCH_TO_THE_NEXT)?;
+    let mut files = folder(alloc, branch, b"U".to_vec(alloc)?)?;
+    let words = ["make", "p", "x", "--seed", "1"];
+    let said = call(alloc, &words, &mut files, 4096, 4096)?;
+    assert!(rt; is_said(&said, 0, report, b""));
+    let mut lone = folder(alloc, program(alloc, &[EBREAK])?, Vec::new(alloc))?;
+    let words = ["make", "p", "x", "--seed", "18446744073709551615"];
+    let said = call(alloc, &words, &mut lone, 4096, 4096)?;
+    let text: &[u8] = b"steps 1\nseed 18446744073709551615\ninput 0\n";
+    assert_eq!(rt; said.status, 0);
+    assert!(rt;
+        said.out
+            .as_slice()
+            .windows(text.len())
+            .any(|part| part == text)
+    );
+    Ok(())
+}
+
+/// The limit of steps is that of the words.
+#[test]
+fn a_breakpoint_on_the_last_step_asked_for(rt: HostRuntime) -> Result<(), Fail> {
+    let alloc = rt.alloc();
+    let report = b"crash-report 1
+program 4084 b58c923ee97fd30c856a64576a95ef1d1f2e7f3910ee400b691d786c636dc525
+trap breakpoint 00010f9c 00000000
+steps 1000
+seed 0
+input 0
+revealed 0 of 0
+end
+";
+    let mut last = folder(alloc, long_program(alloc, 999)?, Vec::new(alloc))?;
+    let said = call(
+        alloc,
+        &["make", "p", "x", "--steps", "1000"],
+        &mut last,
+        4096,
+        4096,
+    )?;
+    assert!(rt; is_said(&said, 0, report, b""));
+    let said = call(
+        alloc,
+        &["make", "p", "x", "--steps", "999"],
+        &mut last,
+        4096,
+        4096,
+    )?;
+    assert!(rt; is_said(&said, 8, b"", b"still running\n"));
+    // jal x0,0
+    let mut endless = folder(alloc, program(alloc, &[0x0000_006f])?, Vec::new(alloc))?;
+    let said = call(
+        alloc,
+        &["make", "p", "x", "--steps=1000"],
+        &mut endless,
+        4096,
+        4096,
+    )?;
+    assert!(rt; is_said(&said, 8, b"", b"still running\n"));
+    Ok(())
+}
