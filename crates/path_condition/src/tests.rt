@@ -1,13 +1,15 @@
 //! Conditions as a caller adds them.
 
-ghost use Rattle.std.specs.Prelude.{◌<◌, length, IfOk};
+ghost use Rattle.std.specs.Prelude.{◌<◌, length, IfOk, All};
+ghost use Rattle.term_model.specs.Places.{ReadsBelow};
 ghost use Rattle.term_arena.specs.Trees.{tree_of, Extends};
 ghost use Rattle.normal_form.specs.Normal.{IsNormal};
+ghost use Rattle.path_condition.specs.Listed.{Belong};
 
 use crate::Conditions;
 use rv_word::AluOp;
 use simplify::make;
-use std::alloc::AllocError;
+use std::alloc::{AllocError, Global};
 use std::test::Fail;
 use term_arena::{Arena, Op, Scratch, Term};
 
@@ -74,5 +76,28 @@ fn a_pin_takes_off_what_is_added(rt: HostRuntime) -> Result<(), Fail> {
         byte_is(&mut arena, 3, 0)?,
     ];
     assert_eq!(rt; conditions.list(), expected.as_slice());
+    Ok(())
+}
+
+/// The list of one condition, that the first two bytes of the input are the same.
+fn first_two_are_the_same(alloc: Global, arena: &mut Arena) -> Result<Conditions, AllocError>
+    ensures listed { IfOk result (Belong arena.new) }
+    ensures reads { IfOk result (λ c. All (λ t. ReadsBelow 2 (tree_of arena.new t)) c) }
+{
+    let first = arena.input(0)?;
+    let second = arena.input(1)?;
+    let same = arena.intern(Op::Eq, first, second)?;
+    let mut conditions = Conditions::new(alloc);
+    conditions.add_holds(arena, same)?;
+    Ok(conditions)
+}
+
+#[test]
+fn conditions_are_tested_on_an_input(rt: HostRuntime) -> Result<(), Fail> {
+    let mut arena = Arena::new(rt.alloc())?;
+    let conditions = first_two_are_the_same(rt.alloc(), &mut arena)?;
+    let mut scratch = Scratch::for_arena(rt.alloc(), &arena)?;
+    assert!(rt; conditions.test(&arena, &[5, 5], &mut scratch));
+    assert!(rt; !conditions.test(&arena, &[5, 6], &mut scratch));
     Ok(())
 }
