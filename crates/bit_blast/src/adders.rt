@@ -7,7 +7,8 @@ ghost use Rattle.word_bits.specs.Circuits.{sum, carry};
 ghost use Rattle.gate_net.specs.Lits.{AreNamed};
 
 use gate_net::{Lit, Net};
-use std::alloc::{AllocError, Global};
+use no_memory::NoMemory;
+use std::alloc::Global;
 
 /// A bit of a sum, and the carry into the next.
 #[derive(Clone, Copy, Debug)]
@@ -24,7 +25,7 @@ pub(crate) struct Total {
 }
 
 /// Adds two bits and a carry.
-fn full_adder(net: &mut Net, a: Lit, b: Lit, carry: Lit) -> Result<Digit, AllocError>
+fn full_adder(net: &mut Net, a: Lit, b: Lit, carry: Lit) -> Result<Digit, NoMemory>
     requires first { a.name < length net.old }
     requires second { b.name < length net.old }
     requires carry { carry.name < length net.old }
@@ -52,7 +53,7 @@ pub(crate) fn sum(
     carry_in: Lit,
     a: &[Lit],
     b: &[Lit],
-) -> Result<Total, AllocError>
+) -> Result<Total, NoMemory>
     requires carry { carry_in.name < length net.old }
     requires first { AreNamed (length net.old) a.now }
     requires second { AreNamed (length net.old) b.now }

@@ -8,7 +8,8 @@ ghost use Rattle.gate_net.specs.Lits.{AreNamed};
 ghost use Rattle.bit_blast.specs.Places.{gate_of, BelongsTo};
 
 use gate_net::{Lit, Net};
-use std::alloc::{AllocError, Global};
+use no_memory::NoMemory;
+use std::alloc::Global;
 
 /// A gate on two bits.
 #[derive(Clone, Copy, Debug)]
@@ -21,7 +22,7 @@ pub(crate) enum BitGate {
 }
 
 /// Makes the gate of two bits.
-fn make(net: &mut Net, gate: BitGate, a: Lit, b: Lit) -> Result<Lit, AllocError>
+fn make(net: &mut Net, gate: BitGate, a: Lit, b: Lit) -> Result<Lit, NoMemory>
     requires gate { BelongsTo (length net.old) gate }
     requires first { a.name < length net.old }
     requires second { b.name < length net.old }
@@ -44,7 +45,7 @@ pub(crate) fn each(
     gate: BitGate,
     a: &[Lit],
     b: &[Lit],
-) -> Result<Vec<Lit>, AllocError>
+) -> Result<Vec<Lit>, NoMemory>
     requires gate { BelongsTo (length net.old) gate }
     requires first { AreNamed (length net.old) a.now }
     requires second { AreNamed (length net.old) b.now }

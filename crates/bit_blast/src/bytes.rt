@@ -9,7 +9,8 @@ ghost use Rattle.bit_blast.specs.Lits.{AreMade};
 
 use crate::bitwise::{BitGate, each};
 use gate_net::{Lit, Net};
-use std::alloc::{AllocError, Global};
+use no_memory::NoMemory;
+use std::alloc::Global;
 
 /// Eight bits of the word from place `first` on where `choice` is yes, else those from `second` on.
 fn one_of_bytes(
@@ -19,7 +20,7 @@ fn one_of_bytes(
     a: &[Lit],
     first: usize,
     second: usize,
-) -> Result<Vec<Lit>, AllocError>
+) -> Result<Vec<Lit>, NoMemory>
     requires choice { choice.name < length net.old }
     requires word { AreNamed (length net.old) a.now }
     requires first { first + 8 ≤ length a.now }
@@ -43,7 +44,7 @@ pub(crate) fn named_byte(
     net: &mut Net,
     a: &[Lit],
     b: &[Lit],
-) -> Result<Vec<Lit>, AllocError>
+) -> Result<Vec<Lit>, NoMemory>
     requires first { AreNamed (length net.old) a.now }
     requires second { AreNamed (length net.old) b.now }
     requires first_width { length a.now ≡ 32 }
@@ -62,7 +63,7 @@ pub(crate) fn named_byte(
 }
 
 /// The lowest bytes of two words, that of the first below.
-pub(crate) fn pair(alloc: Global, a: &[Lit], b: &[Lit]) -> Result<Vec<Lit>, AllocError>
+pub(crate) fn pair(alloc: Global, a: &[Lit], b: &[Lit]) -> Result<Vec<Lit>, NoMemory>
     requires first_width { length a.now ≡ 32 }
     requires second_width { length b.now ≡ 32 }
     ensures below { IfOk result (λ r. (n : ℕ) → 0 < n → AreNamed n a.now → AreNamed n b.now → AreNamed n r.items) }
@@ -76,7 +77,7 @@ pub(crate) fn pair(alloc: Global, a: &[Lit], b: &[Lit]) -> Result<Vec<Lit>, Allo
 }
 
 /// The lower halves of two words, that of the first below.
-pub(crate) fn halves(alloc: Global, a: &[Lit], b: &[Lit]) -> Result<Vec<Lit>, AllocError>
+pub(crate) fn halves(alloc: Global, a: &[Lit], b: &[Lit]) -> Result<Vec<Lit>, NoMemory>
     requires first_width { length a.now ≡ 32 }
     requires second_width { length b.now ≡ 32 }
     ensures below { IfOk result (λ r. (n : ℕ) → 0 < n → AreNamed n a.now → AreNamed n b.now → AreNamed n r.items) }

@@ -11,7 +11,8 @@ ghost use Rattle.bit_blast.specs.Lits.{HasYes, KeepBelow, AreMade};
 use crate::adders::{Total, sum};
 use crate::moves::nots;
 use gate_net::{Lit, Net};
-use std::alloc::{AllocError, Global};
+use no_memory::NoMemory;
+use std::alloc::Global;
 
 /// The difference bit by bit, and its carry, which is no where the first word is less.
 pub(crate) fn difference(
@@ -19,7 +20,7 @@ pub(crate) fn difference(
     net: &mut Net,
     a: &[Lit],
     b: &[Lit],
-) -> Result<Total, AllocError>
+) -> Result<Total, NoMemory>
     requires first { AreNamed (length net.old) a.now }
     requires second { AreNamed (length net.old) b.now }
     requires width { length a.now ≡ length b.now }
@@ -39,7 +40,7 @@ pub(crate) fn difference(
 }
 
 /// Whether the first word is less, both unsigned.
-pub(crate) fn less(alloc: Global, net: &mut Net, a: &[Lit], b: &[Lit]) -> Result<Lit, AllocError>
+pub(crate) fn less(alloc: Global, net: &mut Net, a: &[Lit], b: &[Lit]) -> Result<Lit, NoMemory>
     requires first { AreNamed (length net.old) a.now }
     requires second { AreNamed (length net.old) b.now }
     requires width { length a.now ≡ length b.now }
@@ -52,7 +53,7 @@ pub(crate) fn less(alloc: Global, net: &mut Net, a: &[Lit], b: &[Lit]) -> Result
 }
 
 /// The word with its highest bit negated.
-fn turn_sign(alloc: Global, a: &[Lit]) -> Result<Vec<Lit>, AllocError>
+fn turn_sign(alloc: Global, a: &[Lit]) -> Result<Vec<Lit>, NoMemory>
     requires some { 0 < length a.now }
     ensures below { IfOk result (λ r. KeepBelow a.now r.items) }
     ensures width { IfOk result (λ r. length r.items ≡ length a.now) }
@@ -80,7 +81,7 @@ pub(crate) fn less_signed(
     net: &mut Net,
     a: &[Lit],
     b: &[Lit],
-) -> Result<Lit, AllocError>
+) -> Result<Lit, NoMemory>
     requires some { 0 < length a.now }
     requires first { AreNamed (length net.old) a.now }
     requires second { AreNamed (length net.old) b.now }
@@ -96,7 +97,7 @@ pub(crate) fn less_signed(
 }
 
 /// A truth value as a word.
-pub(crate) fn truth(alloc: Global, bit: Lit) -> Result<Vec<Lit>, AllocError>
+pub(crate) fn truth(alloc: Global, bit: Lit) -> Result<Vec<Lit>, NoMemory>
     ensures below { IfOk result (λ r. (n : ℕ) → bit.name < n → AreNamed n r.items) }
     ensures trees { IfOk result (λ r. AreMade r.items (λ net. truth tree_gates (signed_of net bit))) }
     ensures width { IfOk result (λ r. length r.items ≡ 32) }
@@ -107,7 +108,7 @@ pub(crate) fn truth(alloc: Global, bit: Lit) -> Result<Vec<Lit>, AllocError>
 }
 
 /// Whether the words are equal.
-pub(crate) fn equal(net: &mut Net, a: &[Lit], b: &[Lit]) -> Result<Lit, AllocError>
+pub(crate) fn equal(net: &mut Net, a: &[Lit], b: &[Lit]) -> Result<Lit, NoMemory>
     requires first { AreNamed (length net.old) a.now }
     requires second { AreNamed (length net.old) b.now }
     requires width { length a.now ≡ length b.now }

@@ -11,7 +11,8 @@ use crate::bitwise::{BitGate, each};
 use crate::comparisons::difference;
 use crate::moves::shift_in;
 use gate_net::{Lit, Net};
-use std::alloc::{AllocError, Global};
+use no_memory::NoMemory;
+use std::alloc::Global;
 
 /// Whether a step takes the divisor off, and what it leaves.
 #[derive(Drop)]
@@ -29,7 +30,7 @@ pub(crate) struct Division {
 
 /// Takes the divisor, which has a bit more, off what is left, where it can.
 #[tactic(auto, using(crate::proofs::NetLemmas::turns, crate::proofs::NetLemmas::kept_all))]
-fn step(alloc: Global, net: &mut Net, divisor: &[Lit], left: &[Lit]) -> Result<Taken, AllocError>
+fn step(alloc: Global, net: &mut Net, divisor: &[Lit], left: &[Lit]) -> Result<Taken, NoMemory>
     requires divisor { AreNamed (length net.old) divisor.now }
     requires left { AreNamed (length net.old) left.now }
     requires width { length left.now ≡ length divisor.now }
@@ -58,7 +59,7 @@ pub(crate) fn divide(
     net: &mut Net,
     a: &[Lit],
     b: &[Lit],
-) -> Result<Division, AllocError>
+) -> Result<Division, NoMemory>
     requires first { AreNamed (length net.old) a.now }
     requires second { AreNamed (length net.old) b.now }
     ensures quotient_below { IfOk result (λ d. AreNamed (length net.new) d.quotient.items) }

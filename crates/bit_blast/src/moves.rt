@@ -9,10 +9,11 @@ ghost use Rattle.gate_net.specs.Lits.{AreNamed};
 ghost use Rattle.bit_blast.specs.Lits.{HasYes, KeepBelow, AreMade};
 
 use gate_net::Lit;
-use std::alloc::{AllocError, Global};
+use no_memory::NoMemory;
+use std::alloc::Global;
 
 /// Each bit negated.
-pub(crate) fn nots(alloc: Global, a: &[Lit]) -> Result<Vec<Lit>, AllocError>
+pub(crate) fn nots(alloc: Global, a: &[Lit]) -> Result<Vec<Lit>, NoMemory>
     ensures below { IfOk result (λ r. KeepBelow a.now r.items) }
     ensures width { IfOk result (λ r. length r.items ≡ length a.now) }
     ensures trees { IfOk result (λ r. (net : List Tree) → all_signed_of net r.items ≡ nots tree_gates (all_signed_of net a.now)) }
@@ -25,7 +26,7 @@ pub(crate) fn nots(alloc: Global, a: &[Lit]) -> Result<Vec<Lit>, AllocError>
 }
 
 /// The bits moved up by `k` places, with no below.
-pub(crate) fn up(alloc: Global, k: usize, a: &[Lit]) -> Result<Vec<Lit>, AllocError>
+pub(crate) fn up(alloc: Global, k: usize, a: &[Lit]) -> Result<Vec<Lit>, NoMemory>
     ensures below { IfOk result (λ r. KeepBelow a.now r.items) }
     ensures width { IfOk result (λ r. length r.items ≡ length a.now) }
     ensures trees { IfOk result (λ r. AreMade r.items (λ net. up tree_gates k (all_signed_of net a.now))) }
@@ -37,7 +38,7 @@ pub(crate) fn up(alloc: Global, k: usize, a: &[Lit]) -> Result<Vec<Lit>, AllocEr
 }
 
 /// The bits moved down by `k` places, with `fill` above.
-pub(crate) fn down(alloc: Global, fill: Lit, k: usize, a: &[Lit]) -> Result<Vec<Lit>, AllocError>
+pub(crate) fn down(alloc: Global, fill: Lit, k: usize, a: &[Lit]) -> Result<Vec<Lit>, NoMemory>
     ensures below { IfOk result (λ r. (n : ℕ) → fill.name < n → AreNamed n a.now → AreNamed n r.items) }
     ensures width { IfOk result (λ r. length r.items ≡ length a.now) }
     ensures trees { IfOk result (λ r. AreMade r.items (λ net. down tree_gates (signed_of net fill) k (all_signed_of net a.now))) }
@@ -50,7 +51,7 @@ pub(crate) fn down(alloc: Global, fill: Lit, k: usize, a: &[Lit]) -> Result<Vec<
 }
 
 /// The bits moved up by one place, with `lowest` below.
-pub(crate) fn shift_in(alloc: Global, lowest: Lit, a: &[Lit]) -> Result<Vec<Lit>, AllocError>
+pub(crate) fn shift_in(alloc: Global, lowest: Lit, a: &[Lit]) -> Result<Vec<Lit>, NoMemory>
     ensures below { IfOk result (λ r. (n : ℕ) → lowest.name < n → AreNamed n a.now → AreNamed n r.items) }
     ensures width { IfOk result (λ r. length r.items ≡ length a.now) }
     ensures trees { IfOk result (λ r. AreMade r.items (λ net. shift_in tree_gates (signed_of net lowest) (all_signed_of net a.now))) }

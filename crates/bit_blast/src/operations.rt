@@ -11,11 +11,12 @@ ghost use Rattle.bit_blast.specs.Lits.{AreMade};
 use crate::bytes::{halves, named_byte, pair};
 use crate::processor::{alu, set_equal};
 use gate_net::{Lit, Net};
-use std::alloc::{AllocError, Global};
+use no_memory::NoMemory;
+use std::alloc::Global;
 use term_model::Op;
 
 /// The bits of a constant.
-pub(crate) fn constant(alloc: Global, v: u32) -> Result<Vec<Lit>, AllocError>
+pub(crate) fn constant(alloc: Global, v: u32) -> Result<Vec<Lit>, NoMemory>
     ensures below { IfOk result (λ r. (n : ℕ) → 0 < n → AreNamed n r.items) }
     ensures trees { IfOk result (λ r. AreMade r.items (λ net. constant_bits tree_gates v)) }
     ensures width { IfOk result (λ r. length r.items ≡ 32) }
@@ -33,7 +34,7 @@ pub(crate) fn constant(alloc: Global, v: u32) -> Result<Vec<Lit>, AllocError>
 }
 
 /// The bits of a byte of the input.
-pub(crate) fn input(alloc: Global, net: &mut Net, place: u32) -> Result<Vec<Lit>, AllocError>
+pub(crate) fn input(alloc: Global, net: &mut Net, place: u32) -> Result<Vec<Lit>, NoMemory>
     ensures below { IfOk result (λ r. AreNamed (length net.new) r.items) }
     ensures trees { IfOk result (λ r. all_signed_of net.new r.items ≡ input_bits place) }
     ensures width { IfOk result (λ r. length r.items ≡ 32) }
@@ -56,7 +57,7 @@ pub(crate) fn operation(
     op: Op,
     a: &[Lit],
     b: &[Lit],
-) -> Result<Vec<Lit>, AllocError>
+) -> Result<Vec<Lit>, NoMemory>
     requires first { AreNamed (length net.old) a.now }
     requires second { AreNamed (length net.old) b.now }
     requires first_width { length a.now ≡ 32 }

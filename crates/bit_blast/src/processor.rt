@@ -15,11 +15,12 @@ use crate::products::{product, upper_product};
 use crate::shifts::{shift_left, shift_right};
 use crate::signed::{quotient_signed, remainder, remainder_signed};
 use gate_net::{Lit, Net};
+use no_memory::NoMemory;
 use rv_word::AluOp;
-use std::alloc::{AllocError, Global};
+use std::alloc::Global;
 
 /// The sum.
-fn add(alloc: Global, net: &mut Net, a: &[Lit], b: &[Lit]) -> Result<Vec<Lit>, AllocError>
+fn add(alloc: Global, net: &mut Net, a: &[Lit], b: &[Lit]) -> Result<Vec<Lit>, NoMemory>
     requires first { AreNamed (length net.old) a.now }
     requires second { AreNamed (length net.old) b.now }
     requires first_width { length a.now ≡ 32 }
@@ -35,7 +36,7 @@ fn add(alloc: Global, net: &mut Net, a: &[Lit], b: &[Lit]) -> Result<Vec<Lit>, A
 }
 
 /// The difference.
-fn subtract(alloc: Global, net: &mut Net, a: &[Lit], b: &[Lit]) -> Result<Vec<Lit>, AllocError>
+fn subtract(alloc: Global, net: &mut Net, a: &[Lit], b: &[Lit]) -> Result<Vec<Lit>, NoMemory>
     requires first { AreNamed (length net.old) a.now }
     requires second { AreNamed (length net.old) b.now }
     requires first_width { length a.now ≡ 32 }
@@ -50,7 +51,7 @@ fn subtract(alloc: Global, net: &mut Net, a: &[Lit], b: &[Lit]) -> Result<Vec<Li
 }
 
 /// 1 where the first word is less, unsigned.
-fn set_less(alloc: Global, net: &mut Net, a: &[Lit], b: &[Lit]) -> Result<Vec<Lit>, AllocError>
+fn set_less(alloc: Global, net: &mut Net, a: &[Lit], b: &[Lit]) -> Result<Vec<Lit>, NoMemory>
     requires first { AreNamed (length net.old) a.now }
     requires second { AreNamed (length net.old) b.now }
     requires first_width { length a.now ≡ 32 }
@@ -67,12 +68,7 @@ fn set_less(alloc: Global, net: &mut Net, a: &[Lit], b: &[Lit]) -> Result<Vec<Li
 }
 
 /// 1 where the first word is less, signed.
-fn set_less_signed(
-    alloc: Global,
-    net: &mut Net,
-    a: &[Lit],
-    b: &[Lit],
-) -> Result<Vec<Lit>, AllocError>
+fn set_less_signed(alloc: Global, net: &mut Net, a: &[Lit], b: &[Lit]) -> Result<Vec<Lit>, NoMemory>
     requires first { AreNamed (length net.old) a.now }
     requires second { AreNamed (length net.old) b.now }
     requires first_width { length a.now ≡ 32 }
@@ -94,7 +90,7 @@ pub(crate) fn set_equal(
     net: &mut Net,
     a: &[Lit],
     b: &[Lit],
-) -> Result<Vec<Lit>, AllocError>
+) -> Result<Vec<Lit>, NoMemory>
     requires first { AreNamed (length net.old) a.now }
     requires second { AreNamed (length net.old) b.now }
     requires first_width { length a.now ≡ 32 }
@@ -116,7 +112,7 @@ fn shift_right_zeros(
     net: &mut Net,
     a: &[Lit],
     b: &[Lit],
-) -> Result<Vec<Lit>, AllocError>
+) -> Result<Vec<Lit>, NoMemory>
     requires first { AreNamed (length net.old) a.now }
     requires second { AreNamed (length net.old) b.now }
     requires first_width { length a.now ≡ 32 }
@@ -137,7 +133,7 @@ fn shift_right_signs(
     net: &mut Net,
     a: &[Lit],
     b: &[Lit],
-) -> Result<Vec<Lit>, AllocError>
+) -> Result<Vec<Lit>, NoMemory>
     requires first { AreNamed (length net.old) a.now }
     requires second { AreNamed (length net.old) b.now }
     requires first_width { length a.now ≡ 32 }
@@ -153,7 +149,7 @@ fn shift_right_signs(
 }
 
 /// The upper half of the product of signed words.
-fn upper_signed(alloc: Global, net: &mut Net, a: &[Lit], b: &[Lit]) -> Result<Vec<Lit>, AllocError>
+fn upper_signed(alloc: Global, net: &mut Net, a: &[Lit], b: &[Lit]) -> Result<Vec<Lit>, NoMemory>
     requires first { AreNamed (length net.old) a.now }
     requires second { AreNamed (length net.old) b.now }
     requires first_width { length a.now ≡ 32 }
@@ -170,7 +166,7 @@ fn upper_signed(alloc: Global, net: &mut Net, a: &[Lit], b: &[Lit]) -> Result<Ve
 }
 
 /// The upper half of the product of a signed and an unsigned word.
-fn upper_mixed(alloc: Global, net: &mut Net, a: &[Lit], b: &[Lit]) -> Result<Vec<Lit>, AllocError>
+fn upper_mixed(alloc: Global, net: &mut Net, a: &[Lit], b: &[Lit]) -> Result<Vec<Lit>, NoMemory>
     requires first { AreNamed (length net.old) a.now }
     requires second { AreNamed (length net.old) b.now }
     requires first_width { length a.now ≡ 32 }
@@ -187,12 +183,7 @@ fn upper_mixed(alloc: Global, net: &mut Net, a: &[Lit], b: &[Lit]) -> Result<Vec
 }
 
 /// The upper half of the product of unsigned words.
-fn upper_unsigned(
-    alloc: Global,
-    net: &mut Net,
-    a: &[Lit],
-    b: &[Lit],
-) -> Result<Vec<Lit>, AllocError>
+fn upper_unsigned(alloc: Global, net: &mut Net, a: &[Lit], b: &[Lit]) -> Result<Vec<Lit>, NoMemory>
     requires first { AreNamed (length net.old) a.now }
     requires second { AreNamed (length net.old) b.now }
     requires first_width { length a.now ≡ 32 }
@@ -213,7 +204,7 @@ fn quotient_unsigned(
     net: &mut Net,
     a: &[Lit],
     b: &[Lit],
-) -> Result<Vec<Lit>, AllocError>
+) -> Result<Vec<Lit>, NoMemory>
     requires first { AreNamed (length net.old) a.now }
     requires second { AreNamed (length net.old) b.now }
     requires first_width { length a.now ≡ 32 }
@@ -234,7 +225,7 @@ pub(crate) fn alu(
     op: AluOp,
     a: &[Lit],
     b: &[Lit],
-) -> Result<Vec<Lit>, AllocError>
+) -> Result<Vec<Lit>, NoMemory>
     requires first { AreNamed (length net.old) a.now }
     requires second { AreNamed (length net.old) b.now }
     requires first_width { length a.now ≡ 32 }

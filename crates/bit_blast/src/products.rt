@@ -11,11 +11,12 @@ use crate::adders::sum;
 use crate::bitwise::{BitGate, each};
 use crate::moves::up;
 use gate_net::{Lit, Net};
-use std::alloc::{AllocError, Global};
+use no_memory::NoMemory;
+use std::alloc::Global;
 
 /// Each bit of the word, where `bit` is yes.
 #[tactic(auto, using(crate::proofs::ProductLemmas::under_at_each))]
-fn under(alloc: Global, net: &mut Net, bit: Lit, a: &[Lit]) -> Result<Vec<Lit>, AllocError>
+fn under(alloc: Global, net: &mut Net, bit: Lit, a: &[Lit]) -> Result<Vec<Lit>, NoMemory>
     requires bit { bit.name < length net.old }
     requires word { AreNamed (length net.old) a.now }
     ensures below { IfOk result (λ r. AreNamed (length net.new) r.items) }
@@ -37,7 +38,7 @@ fn add_row(
     place: usize,
     bit: Lit,
     a: &[Lit],
-) -> Result<Vec<Lit>, AllocError>
+) -> Result<Vec<Lit>, NoMemory>
     requires so_far { AreNamed (length net.old) so_far.now }
     requires bit { bit.name < length net.old }
     requires word { AreNamed (length net.old) a.now }
@@ -61,7 +62,7 @@ pub(crate) fn product(
     net: &mut Net,
     a: &[Lit],
     b: &[Lit],
-) -> Result<Vec<Lit>, AllocError>
+) -> Result<Vec<Lit>, NoMemory>
     requires first { AreNamed (length net.old) a.now }
     requires second { AreNamed (length net.old) b.now }
     ensures below { IfOk result (λ r. AreNamed (length net.new) r.items) }
@@ -78,7 +79,7 @@ pub(crate) fn product(
 }
 
 /// The word with as many bits more, all of them `fill`.
-fn widened(alloc: Global, fill: Lit, a: &[Lit]) -> Result<Vec<Lit>, AllocError>
+fn widened(alloc: Global, fill: Lit, a: &[Lit]) -> Result<Vec<Lit>, NoMemory>
     ensures below { IfOk result (λ r. (n : ℕ) → fill.name < n → AreNamed n a.now → AreNamed n r.items) }
     ensures trees { IfOk result (λ r. AreMade r.items (λ net. widened tree_gates (signed_of net fill) (all_signed_of net a.now))) }
     ensures width { IfOk result (λ r. length r.items ≡ length a.now + length a.now) }
@@ -97,7 +98,7 @@ pub(crate) fn upper_product(
     other_above: Lit,
     a: &[Lit],
     b: &[Lit],
-) -> Result<Vec<Lit>, AllocError>
+) -> Result<Vec<Lit>, NoMemory>
     requires above { above.name < length net.old }
     requires other_above { other_above.name < length net.old }
     requires first { AreNamed (length net.old) a.now }

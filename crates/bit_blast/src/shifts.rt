@@ -9,7 +9,8 @@ ghost use Rattle.gate_net.specs.Lits.{AreNamed};
 use crate::bitwise::{BitGate, each};
 use crate::moves::{down, up};
 use gate_net::{Lit, Net};
-use std::alloc::{AllocError, Global};
+use no_memory::NoMemory;
+use std::alloc::Global;
 
 /// The word moved up by so many places where `choice` is yes, with no below.
 fn stage_up(
@@ -18,7 +19,7 @@ fn stage_up(
     choice: Lit,
     distance: usize,
     a: &[Lit],
-) -> Result<Vec<Lit>, AllocError>
+) -> Result<Vec<Lit>, NoMemory>
     requires choice { choice.name < length net.old }
     requires word { AreNamed (length net.old) a.now }
     ensures below { IfOk result (λ r. AreNamed (length net.new) r.items) }
@@ -40,7 +41,7 @@ pub(crate) fn shift_left(
     net: &mut Net,
     a: &[Lit],
     b: &[Lit],
-) -> Result<Vec<Lit>, AllocError>
+) -> Result<Vec<Lit>, NoMemory>
     requires first { AreNamed (length net.old) a.now }
     requires second { AreNamed (length net.old) b.now }
     requires width { 5 ≤ length b.now }
@@ -65,7 +66,7 @@ fn stage_down(
     choice: Lit,
     distance: usize,
     a: &[Lit],
-) -> Result<Vec<Lit>, AllocError>
+) -> Result<Vec<Lit>, NoMemory>
     requires fill { fill.name < length net.old }
     requires choice { choice.name < length net.old }
     requires word { AreNamed (length net.old) a.now }
@@ -89,7 +90,7 @@ pub(crate) fn shift_right(
     fill: Lit,
     a: &[Lit],
     b: &[Lit],
-) -> Result<Vec<Lit>, AllocError>
+) -> Result<Vec<Lit>, NoMemory>
     requires fill { fill.name < length net.old }
     requires first { AreNamed (length net.old) a.now }
     requires second { AreNamed (length net.old) b.now }

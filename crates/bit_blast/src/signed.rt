@@ -10,11 +10,12 @@ use crate::bitwise::{BitGate, each};
 use crate::comparisons::{difference, equal, sign};
 use crate::division::divide;
 use gate_net::{Lit, Net};
-use std::alloc::{AllocError, Global};
+use no_memory::NoMemory;
+use std::alloc::Global;
 
 /// The word's negative.
 #[tactic(auto, using(crate::proofs::SignedLemmas::negate_trees))]
-fn negate(alloc: Global, net: &mut Net, a: &[Lit]) -> Result<Vec<Lit>, AllocError>
+fn negate(alloc: Global, net: &mut Net, a: &[Lit]) -> Result<Vec<Lit>, NoMemory>
     requires word { AreNamed (length net.old) a.now }
     ensures below { IfOk result (λ r. AreNamed (length net.new) r.items) }
     ensures trees { IfOk result (λ r. all_signed_of net.new r.items ≡ negate tree_gates (all_signed_of net.old a.now)) }
@@ -29,7 +30,7 @@ fn negate(alloc: Global, net: &mut Net, a: &[Lit]) -> Result<Vec<Lit>, AllocErro
 
 /// The word, negated where `turned` is yes.
 #[tactic(auto, using(crate::proofs::NetLemmas::turns, crate::proofs::NetLemmas::kept_all, crate::proofs::NetLemmas::kept))]
-fn signed_by(alloc: Global, net: &mut Net, turned: Lit, a: &[Lit]) -> Result<Vec<Lit>, AllocError>
+fn signed_by(alloc: Global, net: &mut Net, turned: Lit, a: &[Lit]) -> Result<Vec<Lit>, NoMemory>
     requires turned { turned.name < length net.old }
     requires word { AreNamed (length net.old) a.now }
     ensures below { IfOk result (λ r. AreNamed (length net.new) r.items) }
@@ -43,7 +44,7 @@ fn signed_by(alloc: Global, net: &mut Net, turned: Lit, a: &[Lit]) -> Result<Vec
 }
 
 /// The word without its sign.
-fn magnitude(alloc: Global, net: &mut Net, a: &[Lit]) -> Result<Vec<Lit>, AllocError>
+fn magnitude(alloc: Global, net: &mut Net, a: &[Lit]) -> Result<Vec<Lit>, NoMemory>
     requires some { 0 < length a.now }
     requires word { AreNamed (length net.old) a.now }
     ensures below { IfOk result (λ r. AreNamed (length net.new) r.items) }
@@ -62,7 +63,7 @@ pub(crate) fn remainder(
     net: &mut Net,
     a: &[Lit],
     b: &[Lit],
-) -> Result<Vec<Lit>, AllocError>
+) -> Result<Vec<Lit>, NoMemory>
     requires first { AreNamed (length net.old) a.now }
     requires second { AreNamed (length net.old) b.now }
     ensures below { IfOk result (λ r. AreNamed (length net.new) r.items) }
@@ -90,7 +91,7 @@ fn both_magnitudes(
     net: &mut Net,
     a: &[Lit],
     b: &[Lit],
-) -> Result<Magnitudes, AllocError>
+) -> Result<Magnitudes, NoMemory>
     requires some { 0 < length a.now }
     requires width { length a.now ≡ length b.now }
     requires first { AreNamed (length net.old) a.now }
@@ -115,7 +116,7 @@ fn quotient_of_magnitudes(
     net: &mut Net,
     a: &[Lit],
     b: &[Lit],
-) -> Result<Vec<Lit>, AllocError>
+) -> Result<Vec<Lit>, NoMemory>
     requires some { 0 < length a.now }
     requires width { length a.now ≡ length b.now }
     requires first { AreNamed (length net.old) a.now }
@@ -138,7 +139,7 @@ fn remainder_of_magnitudes(
     net: &mut Net,
     a: &[Lit],
     b: &[Lit],
-) -> Result<Vec<Lit>, AllocError>
+) -> Result<Vec<Lit>, NoMemory>
     requires some { 0 < length a.now }
     requires width { length a.now ≡ length b.now }
     requires first { AreNamed (length net.old) a.now }
@@ -161,7 +162,7 @@ pub(crate) fn remainder_signed(
     net: &mut Net,
     a: &[Lit],
     b: &[Lit],
-) -> Result<Vec<Lit>, AllocError>
+) -> Result<Vec<Lit>, NoMemory>
     requires some { 0 < length a.now }
     requires width { length a.now ≡ length b.now }
     requires first { AreNamed (length net.old) a.now }
@@ -184,7 +185,7 @@ fn quotient_by_signs(
     net: &mut Net,
     a: &[Lit],
     b: &[Lit],
-) -> Result<Vec<Lit>, AllocError>
+) -> Result<Vec<Lit>, NoMemory>
     requires some { 0 < length a.now }
     requires width { length a.now ≡ length b.now }
     requires first { AreNamed (length net.old) a.now }
@@ -205,7 +206,7 @@ fn quotient_by_signs(
 }
 
 /// Whether the word is 0.
-fn is_zero(alloc: Global, net: &mut Net, b: &[Lit]) -> Result<Lit, AllocError>
+fn is_zero(alloc: Global, net: &mut Net, b: &[Lit]) -> Result<Lit, NoMemory>
     requires word { AreNamed (length net.old) b.now }
     ensures below { IfOk result (λ l. l.name < length net.new) }
     ensures tree { IfOk result (λ l. signed_of net.new l ≡ equal tree_gates (all_signed_of net.old b.now) (nos tree_gates (length (all_signed_of net.old b.now)))) }
@@ -224,7 +225,7 @@ pub(crate) fn quotient_signed(
     net: &mut Net,
     a: &[Lit],
     b: &[Lit],
-) -> Result<Vec<Lit>, AllocError>
+) -> Result<Vec<Lit>, NoMemory>
     requires some { 0 < length a.now }
     requires width { length a.now ≡ length b.now }
     requires first { AreNamed (length net.old) a.now }

@@ -18,8 +18,9 @@ ghost use Rattle.bit_blast.specs.Rows.{IsRow, AreRows, KeepRows, row_of};
 
 use crate::operations::{constant, input, operation};
 use gate_net::{Lit, Net};
+use no_memory::NoMemory;
 use reached_terms::reached_past;
-use std::alloc::{AllocError, Global};
+use std::alloc::Global;
 use std::collections::BTreeMap;
 use std::marker::Model;
 use term_arena::{Arena, Node, Term};
@@ -72,7 +73,7 @@ fn row(rows: &BTreeMap<Term, [Lit; 32]>, t: Term) -> [Lit; 32]
 }
 
 /// Puts the row of a term.
-fn put(rows: &mut BTreeMap<Term, [Lit; 32]>, t: Term, made: &[Lit]) -> Result<(), AllocError>
+fn put(rows: &mut BTreeMap<Term, [Lit; 32]>, t: Term, made: &[Lit]) -> Result<(), NoMemory>
     requires width { length made.now ≡ 32 }
     ensures puts { OnOk result (Updates nat_cmp rows.old rows.new t (Some made.now)) }
     ensures err { OnErr result (rows.new.entries ≡ rows.old.entries) }
@@ -90,7 +91,7 @@ fn make_row(
     t: Term,
     rows: &BTreeMap<Term, [Lit; 32]>,
     net: &mut Net,
-) -> Result<Vec<Lit>, AllocError>
+) -> Result<Vec<Lit>, NoMemory>
     requires belongs { t < length arena.now }
     requires rows { AreRows arena.now net.old rows.now.entries }
     requires operands { OperandsPass arena.now (ContainsKey nat_cmp rows.now) t }
@@ -117,7 +118,7 @@ fn make_rows(
     terms: &[Term],
     net: &mut Net,
     rows: &mut BTreeMap<Term, [Lit; 32]>,
-) -> Result<(), AllocError>
+) -> Result<(), NoMemory>
     requires reached { (conditions : List ℕ) × AreReachedPast arena.now (ContainsKey nat_cmp rows.old) conditions terms.now }
     requires rows { AreRows arena.now net.old rows.old.entries }
     ensures made { OnOk result ((t : ℕ) → Contains terms.now t → ContainsKey nat_cmp rows.new t) }
@@ -145,7 +146,7 @@ pub fn bits_with(
     t: Term,
     net: &mut Net,
     rows: &mut Rows,
-) -> Result<[Lit; 32], AllocError>
+) -> Result<[Lit; 32], NoMemory>
     requires belongs { t < length arena.now }
     requires rows { AreRows arena.now net.old rows.old }
     ensures below { IfOk result (λ word. AreNamed (length net.new) word) }
@@ -167,7 +168,7 @@ pub fn bits_with(
 /// The Lits of the 32 bits of a term, the lowest first.
 ///
 /// After a refusal each earlier Lit of the net has its tree, and new gates may be there.
-pub fn bits(alloc: Global, arena: &Arena, t: Term, net: &mut Net) -> Result<[Lit; 32], AllocError>
+pub fn bits(alloc: Global, arena: &Arena, t: Term, net: &mut Net) -> Result<[Lit; 32], NoMemory>
     requires belongs { t < length arena.now }
     ensures below { IfOk result (λ word. AreNamed (length net.new) word) }
     ensures trees { IfOk result (λ word. all_signed_of net.new word ≡ gates (tree_of arena.now t)) }

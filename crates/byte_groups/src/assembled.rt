@@ -10,7 +10,8 @@ ghost use Rattle.byte_groups.specs.Grouped.{group_of, AreGrouped};
 use crate::dealt::deal;
 use crate::gathered::gather;
 use group_model::{Group, Places, Terms};
-use std::alloc::{AllocError, Global};
+use no_memory::NoMemory;
+use std::alloc::Global;
 use std::collections::BTreeMap;
 use term_arena::Term;
 
@@ -19,7 +20,7 @@ fn assemble(
     alloc: Global,
     places: Vec<Vec<u32>>,
     conditions: Vec<Vec<Term>>,
-) -> Result<Vec<Group>, AllocError>
+) -> Result<Vec<Group>, NoMemory>
     ensures { IfOk result (λ groups. groups.items ≡ map group_of (zip places.items conditions.items)) }
 {
     places
@@ -41,7 +42,7 @@ pub(crate) fn group_by_labels(
     labels: &[u32],
     marks: &[bool],
     numbers: &mut [Option<usize>],
-) -> Result<Vec<Group>, AllocError>
+) -> Result<Vec<Group>, NoMemory>
     requires within { (t : ℕ) → Contains conditions.now t → IsLeafBelow (length labels.now) leaves.now t }
     requires below { AreParents labels.now }
     requires marks { length marks.now ≡ length labels.now }

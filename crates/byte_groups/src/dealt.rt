@@ -8,7 +8,8 @@ ghost use Rattle.byte_groups.specs.Gathered.{number_at, lists_of};
 ghost use Rattle.byte_groups.specs.Dealt.{number_of, AreDealt};
 
 use crate::joined::leaf;
-use std::alloc::{AllocError, Global};
+use no_memory::NoMemory;
+use std::alloc::Global;
 use std::collections::BTreeMap;
 use term_arena::Term;
 
@@ -30,7 +31,7 @@ fn number_of(
 }
 
 /// Puts a term at the end of the list of its number, where it has one.
-fn deal_one(lists: &mut Vec<Vec<Term>>, number: Option<usize>, t: Term) -> Result<(), AllocError>
+fn deal_one(lists: &mut Vec<Vec<Term>>, number: Option<usize>, t: Term) -> Result<(), NoMemory>
     requires within { IfSome number (λ q. q < length lists.old.items) }
     ensures dealt { OnOk result ((of : ℕ → Option ℕ) (terms : List ℕ) → of t ≡ number →
         AreDealt of (length lists.old.items) terms (lists_of lists.old.items) →
@@ -45,7 +46,7 @@ fn deal_one(lists: &mut Vec<Vec<Term>>, number: Option<usize>, t: Term) -> Resul
 }
 
 /// Lists with nothing in them.
-fn empty_lists(alloc: Global, count: usize) -> Result<Vec<Vec<Term>>, AllocError>
+fn empty_lists(alloc: Global, count: usize) -> Result<Vec<Vec<Term>>, NoMemory>
     ensures { IfOk result (λ lists. (of : ℕ → Option ℕ) → AreDealt of count [] (lists_of lists.items)) }
 {
     let mut lists = Vec::new(alloc);
@@ -63,7 +64,7 @@ pub(crate) fn deal(
     numbers: &[Option<usize>],
     leaves: &BTreeMap<Term, u32>,
     count: usize,
-) -> Result<Vec<Vec<Term>>, AllocError>
+) -> Result<Vec<Vec<Term>>, NoMemory>
     requires within { (t : ℕ) → Contains conditions.now t → IsLeafBelow (length labels.now) leaves.now t }
     requires labels { (k : ℕ) → k < length labels.now → slice_index labels.now k < length numbers.now }
     requires numbers { (l q : ℕ) → number_at numbers.now l ≡ Some q → q < count }

@@ -8,7 +8,8 @@ ghost use Rattle.reached_terms.specs.Reached.{OperandsPass, AreReached};
 ghost use Rattle.byte_groups.specs.Joined.{ReadsUpTo};
 ghost use Rattle.byte_groups.specs.Gathered.{ReadsMarked, is_marked, number_at, lists_of, AreGathered};
 
-use std::alloc::{AllocError, Global};
+use no_memory::NoMemory;
+use std::alloc::Global;
 use term_arena::{Arena, Node, Term};
 
 /// Marks the place of a term that is one.
@@ -46,7 +47,7 @@ pub(crate) fn marks_of(
     arena: &Arena,
     terms: &[Term],
     width: usize,
-) -> Result<Vec<bool>, AllocError>
+) -> Result<Vec<bool>, NoMemory>
     requires reached { (conditions : List ℕ) × AreReached arena.now conditions terms.now }
     requires within { (t : ℕ) → Contains terms.now t → ReadsUpTo arena.now width t }
     ensures long { IfOk result (λ marks. length marks.items ≡ width) }
@@ -65,7 +66,7 @@ fn put(
     label: u32,
     numbers: &mut [Option<usize>],
     lists: &mut Vec<Vec<u32>>,
-) -> Result<(), AllocError>
+) -> Result<(), NoMemory>
     requires within { label < length numbers.old }
     requires numbered { (l q : ℕ) → number_at numbers.old l ≡ Some q → q < length lists.old.items }
     ensures { OnOk result ((labels : List ℕ) (marks : List Bool) → slice_index labels place ≡ label → is_marked marks place ≡ true →
@@ -91,7 +92,7 @@ pub(crate) fn gather(
     labels: &[u32],
     marks: &[bool],
     numbers: &mut [Option<usize>],
-) -> Result<Vec<Vec<u32>>, AllocError>
+) -> Result<Vec<Vec<u32>>, NoMemory>
     requires below { AreParents labels.now }
     requires marks { length marks.now ≡ length labels.now }
     requires numbers { length numbers.old ≡ length labels.now }

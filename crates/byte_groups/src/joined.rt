@@ -11,7 +11,8 @@ ghost use Rattle.byte_groups.specs.Labels.{AreParents, IsSteadyAlong};
 ghost use Rattle.byte_groups.specs.Joined.{HasLeaf, IsLeafBelow, AreLabels, ReadsUpTo};
 
 use crate::labels::{flatten, join};
-use std::alloc::{AllocError, Global};
+use no_memory::NoMemory;
+use std::alloc::Global;
 use std::collections::BTreeMap;
 use term_arena::{Arena, Node, Term};
 
@@ -43,7 +44,7 @@ pub(crate) fn leaves_of(
     alloc: Global,
     arena: &Arena,
     terms: &[Term],
-) -> Result<BTreeMap<Term, u32>, AllocError>
+) -> Result<BTreeMap<Term, u32>, NoMemory>
     requires { (conditions : List ℕ) × AreReached arena.now conditions terms.now }
     ensures { IfOk result (λ leaves. (t : ℕ) → Contains terms.now t → HasLeaf arena.now leaves t) }
 {
@@ -113,7 +114,7 @@ fn join_operands(arena: &Arena, t: Term, leaves: &BTreeMap<Term, u32>, parents: 
 }
 
 /// A label for each place below `width`: at first its own.
-fn own_labels(alloc: Global, width: usize) -> Result<Vec<u32>, AllocError>
+fn own_labels(alloc: Global, width: usize) -> Result<Vec<u32>, NoMemory>
     requires { width ≤ 2 ^ 32 }
     ensures long { IfOk result (λ labels. length labels.items ≡ width) }
     ensures own { IfOk result (λ labels. (k : ℕ) → k < width → slice_index labels.items k ≡ k) }
@@ -146,7 +147,7 @@ pub(crate) fn labels_of(
     terms: &[Term],
     leaves: &BTreeMap<Term, u32>,
     width: usize,
-) -> Result<Vec<u32>, AllocError>
+) -> Result<Vec<u32>, NoMemory>
     requires reached { (conditions : List ℕ) × AreReached arena.now conditions terms.now }
     requires leaves { (t : ℕ) → Contains terms.now t → HasLeaf arena.now leaves.now t }
     requires within { (t : ℕ) → Contains terms.now t → ReadsUpTo arena.now width t }

@@ -19,8 +19,9 @@ use assembled::group_by_labels;
 use gathered::marks_of;
 pub use group_model::{Group, Places, Terms};
 use joined::{labels_of, leaves_of, width_of};
+use no_memory::NoMemory;
 use reached_terms::reached;
-use std::alloc::{AllocError, Global};
+use std::alloc::Global;
 use std::marker::Model;
 use term_arena::{Arena, Term};
 
@@ -70,7 +71,7 @@ fn divide(
     arena: &Arena,
     conditions: &[Term],
     terms: &[Term],
-) -> Result<Vec<Group>, AllocError>
+) -> Result<Vec<Group>, NoMemory>
     requires conditions { All (IsCondition arena.now) conditions.now }
     requires reached { AreReached arena.now conditions.now terms.now }
     ensures { IfOk result (λ groups. AreGroups arena.now conditions.now groups.items) }
@@ -86,7 +87,7 @@ fn divide(
 /// The groups of conditions, each of which is a truth term that reads the input: the finest
 /// division of the places that they read in which each condition's places lie in one group. Groups
 /// stand in the order of their first places, and the conditions of a group in their order.
-pub fn groups(alloc: Global, arena: &Arena, conditions: &[Term]) -> Result<GroupList, AllocError>
+pub fn groups(alloc: Global, arena: &Arena, conditions: &[Term]) -> Result<GroupList, NoMemory>
     requires { All (IsCondition arena.now) conditions.now }
     ensures { IfOk result (AreGroups arena.now conditions.now) }
 {

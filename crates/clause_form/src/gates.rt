@@ -11,10 +11,11 @@ ghost use Rattle.clause_form.specs.Clauses.{IsClauseBelow, AreParts, name_clause
 
 use crate::marks::names_under;
 use gate_net::{Clause, ClauseList, Formula, Gate, Lit, Net};
-use std::alloc::{AllocError, Global};
+use no_memory::NoMemory;
+use std::alloc::Global;
 
 /// The clause of the literals.
-fn clause(alloc: Global, literals: &[Lit]) -> Result<Clause, AllocError>
+fn clause(alloc: Global, literals: &[Lit]) -> Result<Clause, NoMemory>
     ensures { IfOk result (λ clause. clause ≡ literals.now) }
 {
     Ok(Clause::from_vec(literals.to_vec(alloc)?))
@@ -27,7 +28,7 @@ fn push_and(
     g: Lit,
     a: Lit,
     b: Lit,
-) -> Result<(), AllocError>
+) -> Result<(), NoMemory>
     ensures { IfOk result (λ _. clauses.new.items ≡ clauses.old.items ++ and_clauses negation g a b) }
 {
     clauses.push(clause(alloc, &[g.not(), a])?)?;
@@ -43,7 +44,7 @@ fn push_xor(
     g: Lit,
     a: Lit,
     b: Lit,
-) -> Result<(), AllocError>
+) -> Result<(), NoMemory>
     ensures { IfOk result (λ _. clauses.new.items ≡ clauses.old.items ++ xor_clauses negation g a b) }
 {
     clauses.push(clause(alloc, &[g.not(), a, b])?)?;
@@ -59,7 +60,7 @@ fn push_gate(
     clauses: &mut Vec<Clause>,
     name: u64,
     gate: Gate,
-) -> Result<(), AllocError>
+) -> Result<(), NoMemory>
     ensures { IfOk result (λ _. clauses.new.items ≡ clauses.old.items ++ name_clauses name gate) }
 {
     let g = Lit {
@@ -74,7 +75,7 @@ fn push_gate(
 }
 
 /// The clauses of the marked names' gates, from the lowest name up.
-fn marked_clauses(alloc: Global, net: &Net, marks: &[bool]) -> Result<Vec<Clause>, AllocError>
+fn marked_clauses(alloc: Global, net: &Net, marks: &[bool]) -> Result<Vec<Clause>, NoMemory>
     requires { length marks.now ≡ length net.now }
     ensures clauses { IfOk result (λ clauses. signed_clauses net.now clauses.items ≡ clauses_upto net.now marks.now (length net.now)) }
     ensures below { IfOk result (λ clauses. All (IsClauseBelow (length net.now)) clauses.items) }
@@ -89,7 +90,7 @@ fn marked_clauses(alloc: Global, net: &Net, marks: &[bool]) -> Result<Vec<Clause
 }
 
 /// Adds a clause of one literal for each root that isn't yes.
-fn push_roots(alloc: Global, clauses: &mut Vec<Clause>, roots: &[Lit]) -> Result<(), AllocError>
+fn push_roots(alloc: Global, clauses: &mut Vec<Clause>, roots: &[Lit]) -> Result<(), NoMemory>
     ensures { IfOk result (λ _. clauses.new.items ≡ clauses.old.items ++ root_clauses roots.now) }
 {
     for root in roots {
@@ -107,7 +108,7 @@ fn push_roots(alloc: Global, clauses: &mut Vec<Clause>, roots: &[Lit]) -> Result
 ///
 /// Fails only for want of memory. The work grows with the net's `len`, not with the depth of its
 /// trees.
-pub fn clauses(alloc: Global, net: &Net, roots: &[Lit]) -> Result<Formula, AllocError>
+pub fn clauses(alloc: Global, net: &Net, roots: &[Lit]) -> Result<Formula, NoMemory>
     requires belong { All (λ l. l.name < length net.now) roots.now }
     requires possible { All (λ l. signed_of net.now l ≢ no) roots.now }
     ensures names { IfOk result (λ formula. formula.names ≡ length net.now) }
@@ -128,7 +129,7 @@ pub fn clauses(alloc: Global, net: &Net, roots: &[Lit]) -> Result<Formula, Alloc
 
 /// The clauses of each gate under the roots, each gate's once, without those of the roots
 /// themselves. No root may be no. Fails only for want of memory.
-pub fn gate_clauses(alloc: Global, net: &Net, roots: &[Lit]) -> Result<Formula, AllocError>
+pub fn gate_clauses(alloc: Global, net: &Net, roots: &[Lit]) -> Result<Formula, NoMemory>
     requires belong { All (λ l. l.name < length net.now) roots.now }
     requires possible { All (λ l. signed_of net.now l ≢ no) roots.now }
     ensures names { IfOk result (λ formula. formula.names ≡ length net.now) }

@@ -11,7 +11,8 @@ ghost use Rattle.search_model.specs.Model.{AreFilled};
 ghost use Rattle.clause_solver.specs.Solved.{SameClauses};
 
 use gate_net::Lit;
-use std::alloc::{AllocError, Global};
+use no_memory::NoMemory;
+use std::alloc::Global;
 use unit_close::{Closed, Closer};
 
 /// Whether the closure of the clauses and the decisions is a conflict.
@@ -57,7 +58,7 @@ pub(crate) fn values(
     alloc: Global,
     closer: &Closer,
     literals: &[Lit],
-) -> Result<Vec<bool>, AllocError>
+) -> Result<Vec<bool>, NoMemory>
     requires { AreNamed closer.now.names literals.now }
     ensures { IfOk result (λ values. (decisions : List Lit) → IsClosure (clauses_of closer.now) decisions closer.now.values →
         values.items ≡ map (in_closure named (clauses_of closer.now) decisions) literals.now) }

@@ -11,7 +11,7 @@ ghost use Rattle.clause_solver.specs.Solved.{SameClauses, IsReached, state_of};
 
 use crate::closing::{conflicts, is_open};
 use gate_net::Lit;
-use std::alloc::AllocError;
+use no_memory::NoMemory;
 use unit_close::Closer;
 
 /// Decides the first open literal of the order until there is a conflict, or none is open. Whether there is a conflict.
@@ -19,7 +19,7 @@ pub(crate) fn descend(
     closer: &mut Closer,
     order: &[Lit],
     decisions: &mut Vec<Lit>,
-) -> Result<bool, AllocError>
+) -> Result<bool, NoMemory>
     requires order { AreNamed closer.old.names order.now }
     requires decisions { AreNamed closer.old.names decisions.old.items }
     requires reached { IsReached closer.old.formula order.now (state_of closer.old decisions.old.items) }

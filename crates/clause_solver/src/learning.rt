@@ -10,8 +10,9 @@ ghost use Rattle.clause_solver.specs.Solved.{SameClauses, SameFormula, state_of,
 
 use crate::closing::conflicts;
 use gate_net::Lit;
+use no_memory::NoMemory;
 use smallvec::SmallVec;
-use std::alloc::{AllocError, Global};
+use std::alloc::Global;
 use unit_close::Closer;
 
 /// The decisions that a conflict needs, and how many stood before the last of them.
@@ -28,7 +29,7 @@ fn shortest_end(
     tried: &mut Vec<Lit>,
     decisions: &[Lit],
     from: usize,
-) -> Result<usize, AllocError>
+) -> Result<usize, NoMemory>
     requires tried { AreNamed closer.old.names tried.old.items }
     requires decisions { AreNamed closer.old.names decisions.now }
     requires from { from ≤ length decisions.now }
@@ -46,7 +47,7 @@ fn shortest_end(
 
 /// Drops each decision, from the first on, without which those left and those after it still conflict. A conflict stays
 /// one with more decisions, so each pass finds the next decision that is left.
-fn trim(alloc: Global, closer: &mut Closer, decisions: &[Lit]) -> Result<Trimmed, AllocError>
+fn trim(alloc: Global, closer: &mut Closer, decisions: &[Lit]) -> Result<Trimmed, NoMemory>
     requires { AreNamed closer.old.names decisions.now }
     ensures trimmed { IfOk result (λ r. trim named (clauses_of closer.old) decisions.now
         ≡ record { left = r.left.items; before = take r.before decisions.now }) }
@@ -72,7 +73,7 @@ fn trim(alloc: Global, closer: &mut Closer, decisions: &[Lit]) -> Result<Trimmed
 }
 
 /// The clause of the negations of the literals.
-fn negations(alloc: Global, literals: &[Lit]) -> Result<SmallVec<Lit, 16>, AllocError>
+fn negations(alloc: Global, literals: &[Lit]) -> Result<SmallVec<Lit, 16>, NoMemory>
     ensures { IfOk result (λ clause. clause.items ≡ map negation literals.now) }
 {
     let mut clause = SmallVec::new(alloc);
@@ -88,7 +89,7 @@ pub(crate) fn learn(
     alloc: Global,
     closer: &mut Closer,
     decisions: &mut Vec<Lit>,
-) -> Result<(), AllocError>
+) -> Result<(), NoMemory>
     requires { AreNamed closer.old.names decisions.old.items }
     ensures learned { OnOk result (state_of closer.new decisions.new.items ≡ learn named closer.old.formula (state_of closer.old decisions.old.items)) }
     ensures named { AreNamed closer.new.names decisions.new.items }

@@ -15,10 +15,11 @@ use crate::header::{E_ENTRY, E_PHNUM, E_PHOFF, Header, UNREAD, half_at, read_hea
 use crate::image::Image;
 use crate::rules::{MOST_HEADERS, check_header, check_segments};
 use crate::segments::{Segment, Segments};
-use std::alloc::{AllocError, Global};
+use no_memory::NoMemory;
+use std::alloc::Global;
 
 /// The segment of a header.
-fn segment_of(alloc: Global, bytes: &[u8], header: &Header) -> Result<Segment, AllocError>
+fn segment_of(alloc: Global, bytes: &[u8], header: &Header) -> Result<Segment, NoMemory>
     requires { header.now.offset + header.now.filesz ≤ length bytes.now }
     ensures { IfOk result (λ s. s ≡ segment_of bytes.now header.now) }
 {
@@ -35,7 +36,7 @@ fn segment_of(alloc: Global, bytes: &[u8], header: &Header) -> Result<Segment, A
 }
 
 /// The segments of the headers, in the file's order.
-fn segments_of(alloc: Global, bytes: &[u8], headers: &[Header]) -> Result<Vec<Segment>, AllocError>
+fn segments_of(alloc: Global, bytes: &[u8], headers: &[Header]) -> Result<Vec<Segment>, NoMemory>
     requires { list_any (is_outside (length bytes.now)) headers.now ≡ false }
     ensures { IfOk result (λ v. v.items ≡ segments_of bytes.now headers.now) }
 {
@@ -49,7 +50,7 @@ fn segments_of(alloc: Global, bytes: &[u8], headers: &[Header]) -> Result<Vec<Se
 }
 
 /// The segments in ascending order of base.
-fn sorted(mut segments: Vec<Segment>) -> Result<Vec<Segment>, AllocError>
+fn sorted(mut segments: Vec<Segment>) -> Result<Vec<Segment>, NoMemory>
     ensures permutation { IfOk result (λ v. IsPermutation segments.items v.items) }
     ensures order { IfOk result (λ v. IsNonDecreasingBy (λ s. s.base) v.items) }
 {
@@ -58,7 +59,7 @@ fn sorted(mut segments: Vec<Segment>) -> Result<Vec<Segment>, AllocError>
 }
 
 /// The segments of headers that break no rule, in ascending order of base.
-fn loaded_segments(alloc: Global, bytes: &[u8], headers: &[Header]) -> Result<Segments, AllocError>
+fn loaded_segments(alloc: Global, bytes: &[u8], headers: &[Header]) -> Result<Segments, NoMemory>
     requires inside { list_any (is_outside (length bytes.now)) headers.now ≡ false }
     requires apart { overlap (stack ∷ spans_of headers.now) ≡ false }
     requires small { memory_size headers.now ≤ 67108864 }

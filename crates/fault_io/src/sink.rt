@@ -2,7 +2,8 @@ ghost use Rattle.std.specs.Prelude.{◌≡◌, ℕ, ◌+◌, ◌^◌, ◌<◌, �
 ghost use Rattle.fault_io.specs.Faults.{Rose, raised, after_taking};
 ghost use Rattle.fault_io.specs.Sinks.{left};
 
-use std::alloc::{AllocError, Global};
+use no_memory::NoMemory;
+use std::alloc::Global;
 use std::marker::Model;
 
 /// A piece of which nothing was taken. The sink counted it as a fault.
@@ -52,7 +53,7 @@ impl Model for MemSink {
 
 impl MemSink {
     /// An empty sink with room for `room` bytes. It takes all of its memory here.
-    pub fn new(alloc: Global, room: u32) -> Result<Self, AllocError>
+    pub fn new(alloc: Global, room: u32) -> Result<Self, NoMemory>
         ensures { IfOk result (λ sink. sink ≡ record { bytes = []; room = room; faults = 0 }) }
     {
         let mut bytes = Vec::new(alloc);

@@ -9,7 +9,8 @@ ghost use Rattle.gate_net.specs.Trees.{tree_of, tree_from, signed_of, IsGateAt, 
 use crate::literals::{Gate, Lit};
 use crate::rules::{and_by_rule, xor_by_rule};
 use indexmap::IndexSet;
-use std::alloc::{AllocError, Global};
+use no_memory::NoMemory;
+use std::alloc::Global;
 use std::marker::Model;
 
 /// Gates, each once (hash consing), in the order of making: a gate's name is its place.
@@ -36,7 +37,7 @@ impl Model for Net {
 
 impl Net {
     /// A net with the constant yes alone, under the name 0.
-    pub fn new(alloc: Global) -> Result<Net, AllocError>
+    pub fn new(alloc: Global) -> Result<Net, NoMemory>
         ensures yes { IfOk result (λ net. net ≡ Yes ∷ []) }
     {
         let mut gates = IndexSet::new(alloc);
@@ -67,7 +68,7 @@ impl Net {
     }
 
     /// The Lit of a gate, which is there or is put at the end.
-    fn place(&mut self, gate: Gate) -> Result<Lit, AllocError>
+    fn place(&mut self, gate: Gate) -> Result<Lit, NoMemory>
         requires at { IsGateAt (length self.old) gate }
         requires made { IsMade (tree_from self.old gate) }
         ensures below { IfOk result (λ l. l.name < length self.new) }
@@ -85,7 +86,7 @@ impl Net {
 
     /// The Lit of a bit of a byte of the input: the byte's place, counted from 0, and the bit's
     /// number, where bit 0 is the lowest. After a refusal the net is as before.
-    pub fn input_bit(&mut self, place: u32, bit: u8) -> Result<Lit, AllocError>
+    pub fn input_bit(&mut self, place: u32, bit: u8) -> Result<Lit, NoMemory>
         requires bit { bit < 8 }
         ensures below { IfOk result (λ l. l.name < length self.new) }
         ensures tree { IfOk result (λ l. signed_of self.new l ≡ plain (Bit place bit)) }
@@ -98,7 +99,7 @@ impl Net {
 
     /// The Lit that is true exactly where both are, simplified. After a refusal the net is as
     /// before.
-    pub fn and(&mut self, a: Lit, b: Lit) -> Result<Lit, AllocError>
+    pub fn and(&mut self, a: Lit, b: Lit) -> Result<Lit, NoMemory>
         requires first { a.name < length self.old }
         requires second { b.name < length self.old }
         ensures below { IfOk result (λ l. l.name < length self.new) }
@@ -116,7 +117,7 @@ impl Net {
 
     /// The Lit that is true exactly where one of the two is, simplified. After a refusal the net
     /// is as before.
-    pub fn xor(&mut self, a: Lit, b: Lit) -> Result<Lit, AllocError>
+    pub fn xor(&mut self, a: Lit, b: Lit) -> Result<Lit, NoMemory>
         requires first { a.name < length self.old }
         requires second { b.name < length self.old }
         ensures below { IfOk result (λ l. l.name < length self.new) }
@@ -140,7 +141,7 @@ impl Net {
 
     /// The Lit that is true exactly where one of the two or both are, simplified. After a refusal
     /// the net is as before.
-    pub fn or(&mut self, a: Lit, b: Lit) -> Result<Lit, AllocError>
+    pub fn or(&mut self, a: Lit, b: Lit) -> Result<Lit, NoMemory>
         requires first { a.name < length self.old }
         requires second { b.name < length self.old }
         ensures below { IfOk result (λ l. l.name < length self.new) }
@@ -155,7 +156,7 @@ impl Net {
 
     /// The Lit that is `a` where `c` is true, else `b`, simplified. After a refusal the gates of the
     /// two branches may be there.
-    pub fn mux(&mut self, c: Lit, a: Lit, b: Lit) -> Result<Lit, AllocError>
+    pub fn mux(&mut self, c: Lit, a: Lit, b: Lit) -> Result<Lit, NoMemory>
         requires choice { c.name < length self.old }
         requires first { a.name < length self.old }
         requires second { b.name < length self.old }

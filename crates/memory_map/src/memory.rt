@@ -10,7 +10,8 @@ ghost use Rattle.memory_map.specs.Layout.{CanFrom, IsPartAt, IsRun, part_of};
 use crate::parts::{region_of, write_at};
 use crate::region::{EXECUTE, READ, Region, WRITE};
 use elf32::{Image, Segment};
-use std::alloc::{AllocError, Global};
+use no_memory::NoMemory;
+use std::alloc::Global;
 use std::marker::Model;
 
 /// The stack's first address.
@@ -259,7 +260,7 @@ impl Memory {
     /// The memory of a machine at the start of a program: the bytes of each segment, zeros after them up
     /// to its size, and the stack, whose 1,048,576 zeros from 7ff00000 on may be read and written. The
     /// one error is want of memory.
-    pub fn start(alloc: Global, image: &Image) -> Result<Memory, AllocError>
+    pub fn start(alloc: Global, image: &Image) -> Result<Memory, NoMemory>
         ensures { IfOk result (λ m. m ≡ start_map image.now.segments) }
     {
         let segments = regions_for(alloc, image.segments.as_slice())?;
@@ -269,7 +270,7 @@ impl Memory {
 }
 
 /// Zeros.
-fn zeros(alloc: Global, size: usize) -> Result<Vec<u8>, AllocError>
+fn zeros(alloc: Global, size: usize) -> Result<Vec<u8>, NoMemory>
     ensures items { IfOk result (λ v. v.items ≡ replicate size 0) }
     ensures size { IfOk result (λ v. length v.items ≡ size) }
 {
@@ -277,7 +278,7 @@ fn zeros(alloc: Global, size: usize) -> Result<Vec<u8>, AllocError>
 }
 
 /// The stack: zeros that may be read and written.
-fn new_stack(alloc: Global) -> Result<Region, AllocError>
+fn new_stack(alloc: Global) -> Result<Region, NoMemory>
     ensures cells { IfOk result (λ r. cells_from r.base r.rights r.bytes ≡ stack_cells) }
     ensures base { IfOk result (λ r. r.base ≡ 0x7ff00000) }
     ensures size { IfOk result (λ r. length r.bytes ≡ 0x100000) }
@@ -287,7 +288,7 @@ fn new_stack(alloc: Global) -> Result<Region, AllocError>
 }
 
 /// The region of a segment.
-fn region_for(alloc: Global, segment: &Segment) -> Result<Region, AllocError>
+fn region_for(alloc: Global, segment: &Segment) -> Result<Region, NoMemory>
     requires { length segment.now.bytes ≤ segment.now.size }
     ensures { IfOk result (λ r. r ≡ part_of segment.now) }
 {
@@ -297,7 +298,7 @@ fn region_for(alloc: Global, segment: &Segment) -> Result<Region, AllocError>
 }
 
 /// The regions of segments, in the same order.
-fn regions_for(alloc: Global, segments: &[Segment]) -> Result<Vec<Region>, AllocError>
+fn regions_for(alloc: Global, segments: &[Segment]) -> Result<Vec<Region>, NoMemory>
     requires { AreSized segments.now }
     ensures { IfOk result (λ v. v.items ≡ map part_of segments.now) }
 {

@@ -12,9 +12,9 @@ ghost use Rattle.replay_law.specs.Forms as shape;
 ghost use Rattle.path_condition.specs.Listed.{Belong};
 ghost use Rattle.path_condition.specs.Sums.{constant_of, sum_of, even_sum_of, named, IsTermOf};
 
+use no_memory::NoMemory;
 use rv_word::{AluOp, byte_of};
 use simplify::make;
-use std::alloc::AllocError;
 use term_arena::{Arena, Node, Op, Term};
 
 /// A term and a word.
@@ -25,7 +25,7 @@ pub(crate) struct Sum {
 }
 
 /// The normal form of byte `k` of a term, where byte 0 is the lowest.
-pub fn byte_term(arena: &mut Arena, t: Term, k: u8) -> Result<Term, AllocError>
+pub fn byte_term(arena: &mut Arena, t: Term, k: u8) -> Result<Term, NoMemory>
     requires belongs { t < length arena.old }
     requires normal { IsNormal (tree_of arena.old t) }
     requires byte { k < 4 }
@@ -37,7 +37,7 @@ pub fn byte_term(arena: &mut Arena, t: Term, k: u8) -> Result<Term, AllocError>
 }
 
 /// Byte `k` of a term is that of a value.
-fn byte_is(arena: &mut Arena, t: Term, value: u32, k: u8) -> Result<Term, AllocError>
+fn byte_is(arena: &mut Arena, t: Term, value: u32, k: u8) -> Result<Term, NoMemory>
     requires belongs { t < length arena.old }
     requires normal { IsNormal (tree_of arena.old t) }
     requires byte { k < 4 }
@@ -50,7 +50,7 @@ fn byte_is(arena: &mut Arena, t: Term, value: u32, k: u8) -> Result<Term, AllocE
 }
 
 /// Byte `k` of two terms is the same.
-fn same_byte(arena: &mut Arena, a: Term, b: Term, k: u8) -> Result<Term, AllocError>
+fn same_byte(arena: &mut Arena, a: Term, b: Term, k: u8) -> Result<Term, NoMemory>
     requires first { a < length arena.old }
     requires second { b < length arena.old }
     requires normal_first { IsNormal (tree_of arena.old a) }
@@ -65,7 +65,7 @@ fn same_byte(arena: &mut Arena, a: Term, b: Term, k: u8) -> Result<Term, AllocEr
 }
 
 /// The lowest byte of a sum is that of a target, its lowest bit aside.
-fn low_byte_is(arena: &mut Arena, sum: Term, target: u32) -> Result<Term, AllocError>
+fn low_byte_is(arena: &mut Arena, sum: Term, target: u32) -> Result<Term, NoMemory>
     requires belongs { sum < length arena.old }
     requires normal { IsNormal (tree_of arena.old sum) }
     ensures made { IfOk result (IsTermOf arena.new (norm Eq (norm (Alu And) (shape.byte_term norm 0 (tree_of arena.old sum)) (Const 254)) (Const (byte_number 0 target)))) }
@@ -79,7 +79,7 @@ fn low_byte_is(arena: &mut Arena, sum: Term, target: u32) -> Result<Term, AllocE
 }
 
 /// Two terms are equal, byte by byte.
-pub(crate) fn equal(arena: &mut Arena, a: Term, b: Term) -> Result<[Term; 4], AllocError>
+pub(crate) fn equal(arena: &mut Arena, a: Term, b: Term) -> Result<[Term; 4], NoMemory>
     requires first { a < length arena.old }
     requires second { b < length arena.old }
     requires normal_first { IsNormal (tree_of arena.old a) }
@@ -97,7 +97,7 @@ pub(crate) fn equal(arena: &mut Arena, a: Term, b: Term) -> Result<[Term; 4], Al
 }
 
 /// A term has a value, byte by byte.
-pub(crate) fn bytes_are(arena: &mut Arena, t: Term, value: u32) -> Result<[Term; 4], AllocError>
+pub(crate) fn bytes_are(arena: &mut Arena, t: Term, value: u32) -> Result<[Term; 4], NoMemory>
     requires belongs { t < length arena.old }
     requires normal { IsNormal (tree_of arena.old t) }
     ensures belong { IfOk result (Belong arena.new) }
@@ -112,11 +112,7 @@ pub(crate) fn bytes_are(arena: &mut Arena, t: Term, value: u32) -> Result<[Term;
 }
 
 /// A sum is a target once its lowest bit is cleared, byte by byte.
-pub(crate) fn target_bytes(
-    arena: &mut Arena,
-    sum: Term,
-    target: u32,
-) -> Result<[Term; 4], AllocError>
+pub(crate) fn target_bytes(arena: &mut Arena, sum: Term, target: u32) -> Result<[Term; 4], NoMemory>
     requires belongs { sum < length arena.old }
     requires normal { IsNormal (tree_of arena.old sum) }
     ensures belong { IfOk result (Belong arena.new) }

@@ -17,7 +17,8 @@ ghost use Rattle.replay_law.specs.Forms.{target as jump_target};
 ghost use Rattle.path_condition.specs.Listed.{Belong, is_listed};
 
 use crate::forms;
-use std::alloc::{AllocError, Global};
+use no_memory::NoMemory;
+use std::alloc::Global;
 use std::collections::BTreeMap;
 use std::marker::Model;
 use term_arena::{Arena, Node, Scratch, Term};
@@ -87,7 +88,7 @@ impl Conditions {
     }
 
     /// Puts a term that isn't there at the end.
-    fn append(&mut self, t: Term) -> Result<(), AllocError>
+    fn append(&mut self, t: Term) -> Result<(), NoMemory>
         requires { is_listed self.old t ≡ false }
         ensures ok { OnOk result (self.new ≡ self.old ++ t ∷ []) }
         ensures err { OnErr result (self.new ≡ self.old) }
@@ -111,7 +112,7 @@ impl Conditions {
     }
 
     /// Adds a term, unless it is the constant 1 or is there.
-    fn add(&mut self, arena: &Arena, t: Term) -> Result<(), AllocError>
+    fn add(&mut self, arena: &Arena, t: Term) -> Result<(), NoMemory>
         requires listed { Belong arena.now self.old }
         requires belongs { t < length arena.now }
         ensures trees { OnOk result (trees_of arena.now self.new
@@ -127,7 +128,7 @@ impl Conditions {
     }
 
     /// Adds terms one after the other, or none.
-    fn add_all(&mut self, arena: &Arena, terms: &[Term]) -> Result<(), AllocError>
+    fn add_all(&mut self, arena: &Arena, terms: &[Term]) -> Result<(), NoMemory>
         requires listed { Belong arena.now self.old }
         requires belong { Belong arena.now terms.now }
         ensures trees { OnOk result (trees_of arena.now self.new
@@ -149,7 +150,7 @@ impl Conditions {
     }
 
     /// Adds that a term has the value 1.
-    pub fn add_holds(&mut self, arena: &Arena, t: Term) -> Result<(), AllocError>
+    pub fn add_holds(&mut self, arena: &Arena, t: Term) -> Result<(), NoMemory>
         requires listed { Belong arena.now self.old }
         requires belongs { t < length arena.now }
         ensures trees { OnOk result (trees_of arena.now self.new
@@ -164,7 +165,7 @@ impl Conditions {
     }
 
     /// Adds that two terms have one value, byte by byte.
-    pub fn add_equal(&mut self, arena: &mut Arena, a: Term, b: Term) -> Result<(), AllocError>
+    pub fn add_equal(&mut self, arena: &mut Arena, a: Term, b: Term) -> Result<(), NoMemory>
         requires listed { Belong arena.old self.old }
         requires first { a < length arena.old }
         requires second { b < length arena.old }
@@ -185,7 +186,7 @@ impl Conditions {
     }
 
     /// Adds that a term has a value, byte by byte. A constant that is added to the term is taken off the value first.
-    pub fn add_pin(&mut self, arena: &mut Arena, t: Term, value: u32) -> Result<(), AllocError>
+    pub fn add_pin(&mut self, arena: &mut Arena, t: Term, value: u32) -> Result<(), NoMemory>
         requires listed { Belong arena.old self.old }
         requires belongs { t < length arena.old }
         requires normal { IsNormal (tree_of arena.old t) }
@@ -206,12 +207,7 @@ impl Conditions {
 
     /// Adds that a sum with its lowest bit cleared is an even `target`, byte by byte. An even constant that is added to the
     /// sum is taken off the target first. An odd target is met by no sum.
-    pub fn add_target(
-        &mut self,
-        arena: &mut Arena,
-        sum: Term,
-        target: u32,
-    ) -> Result<(), AllocError>
+    pub fn add_target(&mut self, arena: &mut Arena, sum: Term, target: u32) -> Result<(), NoMemory>
         requires listed { Belong arena.old self.old }
         requires belongs { sum < length arena.old }
         requires normal { IsNormal (tree_of arena.old sum) }

@@ -6,12 +6,13 @@ ghost use Rattle.std.specs.Ordering.{nat_cmp};
 ghost use Rattle.std.specs.BTreeMap.{ContainsKey};
 ghost use Rattle.reached_terms.specs.Reached.{IsUnder, OperandsPass, AreReached, AreReachedPast};
 
-use std::alloc::{AllocError, Global};
+use no_memory::NoMemory;
+use std::alloc::Global;
 use std::collections::{BTreeMap, BTreeSet};
 use term_arena::{Arena, Node, Term};
 
 /// The terms of a list as a set.
-fn set_of(alloc: Global, terms: &[Term]) -> Result<BTreeSet<Term>, AllocError>
+fn set_of(alloc: Global, terms: &[Term]) -> Result<BTreeSet<Term>, NoMemory>
     ensures { IfOk result (λ set. (t : ℕ) → Contains set.keys t ↔ Contains terms.now t) }
 {
     let mut set = BTreeSet::new(alloc);
@@ -22,7 +23,7 @@ fn set_of(alloc: Global, terms: &[Term]) -> Result<BTreeSet<Term>, AllocError>
 }
 
 /// Adds the operands of a term, where it is an operation.
-fn add_operands(arena: &Arena, t: Term, pending: &mut BTreeSet<Term>) -> Result<(), AllocError>
+fn add_operands(arena: &Arena, t: Term, pending: &mut BTreeSet<Term>) -> Result<(), NoMemory>
     requires belongs { t < length arena.now }
     ensures keeps { OnOk result ((u : ℕ) → Contains pending.old.keys u → Contains pending.new.keys u) }
     ensures adds { OnOk result ((u : ℕ) → Contains pending.new.keys u →
@@ -49,7 +50,7 @@ pub fn reached_past<V>(
     arena: &Arena,
     conditions: &[Term],
     known: &BTreeMap<Term, V>,
-) -> Result<Vec<Term>, AllocError>
+) -> Result<Vec<Term>, NoMemory>
     requires { All (λ t. t < length arena.now) conditions.now }
     ensures { IfOk result (λ terms. AreReachedPast arena.now (ContainsKey nat_cmp known.now) conditions.now terms.items) }
 {
@@ -66,7 +67,7 @@ pub fn reached_past<V>(
 
 /// The terms that stand under the conditions, the conditions among them, from the highest number
 /// down.
-pub fn reached(alloc: Global, arena: &Arena, conditions: &[Term]) -> Result<Vec<Term>, AllocError>
+pub fn reached(alloc: Global, arena: &Arena, conditions: &[Term]) -> Result<Vec<Term>, NoMemory>
     requires { All (λ t. t < length arena.now) conditions.now }
     ensures { IfOk result (λ terms. AreReached arena.now conditions.now terms.items) }
 {

@@ -6,8 +6,9 @@ ghost use Rattle.report_format.specs.Text.{content_of, word_digits, kind_name, p
 
 use crate::{Bytes, Report};
 use byte_sets::{ByteSet, revealed};
+use no_memory::NoMemory;
 use rv_event::{Trap, TrapKind};
-use std::alloc::{AllocError, Global};
+use std::alloc::Global;
 
 /// The word for a kind of trap.
 pub fn kind_word(kind: TrapKind) -> &'static str
@@ -24,13 +25,13 @@ pub fn kind_word(kind: TrapKind) -> &'static str
 }
 
 /// The eight digits of a word.
-fn format_word(alloc: Global, word: u32) -> Result<String, AllocError>
+fn format_word(alloc: Global, word: u32) -> Result<String, NoMemory>
     ensures { IfOk result (λ digits. string_bytes digits ≡ word_digits word) }
 {
     hex::encode(alloc, word.to_be_bytes().as_slice())
 }
 
-fn format_program(alloc: Global, report: &Report) -> Result<String, AllocError>
+fn format_program(alloc: Global, report: &Report) -> Result<String, NoMemory>
     ensures { IfOk result (λ line. string_bytes line ≡ program_line report.now.length report.now.digest) }
 {
     let length = report.length;
@@ -38,7 +39,7 @@ fn format_program(alloc: Global, report: &Report) -> Result<String, AllocError>
     format!(in alloc; "program {length} {digest}")
 }
 
-fn format_trap(alloc: Global, trap: Trap) -> Result<String, AllocError>
+fn format_trap(alloc: Global, trap: Trap) -> Result<String, NoMemory>
     ensures { IfOk result (λ line. string_bytes line ≡ trap_line trap) }
 {
     let kind = kind_word(trap.kind);
@@ -47,7 +48,7 @@ fn format_trap(alloc: Global, trap: Trap) -> Result<String, AllocError>
     format!(in alloc; "trap {kind} {pc} {value}")
 }
 
-fn format_set(alloc: Global, place: usize, set: &ByteSet) -> Result<String, AllocError>
+fn format_set(alloc: Global, place: usize, set: &ByteSet) -> Result<String, NoMemory>
     ensures { IfOk result (λ line. string_bytes line ≡ set_line place (has set.now)) }
 {
     let size = set.size();
@@ -55,7 +56,7 @@ fn format_set(alloc: Global, place: usize, set: &ByteSet) -> Result<String, Allo
     format!(in alloc; "set {place} {size} {digits}")
 }
 
-pub fn format_revealed(alloc: Global, sets: &[ByteSet], input: &[u8]) -> Result<String, AllocError>
+pub fn format_revealed(alloc: Global, sets: &[ByteSet], input: &[u8]) -> Result<String, NoMemory>
     requires filled { All (λ set. 0 < size (has set)) sets.now }
     requires few { length sets.now ≤ 65536 }
     requires one_each { length sets.now ≡ length input.now }
@@ -67,7 +68,7 @@ pub fn format_revealed(alloc: Global, sets: &[ByteSet], input: &[u8]) -> Result<
 }
 
 /// Adds a line and its line end.
-fn push_line(out: &mut Vec<u8>, line: &[u8]) -> Result<(), AllocError>
+fn push_line(out: &mut Vec<u8>, line: &[u8]) -> Result<(), NoMemory>
     ensures { OnOk result (out.new.items ≡ out.old.items ++ (line.now ++ 10 ∷ [])) }
 {
     out.extend_from_slice(line)?;
@@ -76,7 +77,7 @@ fn push_line(out: &mut Vec<u8>, line: &[u8]) -> Result<(), AllocError>
 }
 
 /// Adds lines, each with its line end.
-fn push_lines(out: &mut Vec<u8>, lines: &[&str]) -> Result<(), AllocError>
+fn push_lines(out: &mut Vec<u8>, lines: &[&str]) -> Result<(), NoMemory>
     ensures { OnOk result (out.new.items ≡ out.old.items ++ joined (map (λ line. line.now) lines.now)) }
 {
     for line in lines {
@@ -87,7 +88,7 @@ fn push_lines(out: &mut Vec<u8>, lines: &[&str]) -> Result<(), AllocError>
 
 /// Adds the lines before the data.
 #[tactic(auto, unfolding(crate::specs::Text::head))]
-fn push_head(alloc: Global, out: &mut Vec<u8>, report: &Report) -> Result<(), AllocError>
+fn push_head(alloc: Global, out: &mut Vec<u8>, report: &Report) -> Result<(), NoMemory>
     ensures { OnOk result (out.new.items ≡ out.old.items ++ joined (head (content_of report.now))) }
 {
     let steps = report.steps;
@@ -112,7 +113,7 @@ fn push_head(alloc: Global, out: &mut Vec<u8>, report: &Report) -> Result<(), Al
 }
 
 /// Adds the lines of the input's bytes.
-fn push_data(alloc: Global, out: &mut Vec<u8>, input: &[u8]) -> Result<(), AllocError>
+fn push_data(alloc: Global, out: &mut Vec<u8>, input: &[u8]) -> Result<(), NoMemory>
     ensures { OnOk result (out.new.items ≡ out.old.items ++ joined (data_lines input.now)) }
 {
     for piece in input.chunks(32) {
@@ -123,7 +124,7 @@ fn push_data(alloc: Global, out: &mut Vec<u8>, input: &[u8]) -> Result<(), Alloc
 }
 
 /// Adds the line of a set that isn't full.
-fn push_set(alloc: Global, out: &mut Vec<u8>, place: usize, set: &ByteSet) -> Result<(), AllocError>
+fn push_set(alloc: Global, out: &mut Vec<u8>, place: usize, set: &ByteSet) -> Result<(), NoMemory>
     ensures { OnOk result (out.new.items ≡ out.old.items ++ joined (lines_of_set place (has set.now))) }
 {
     if set.size() == 256 {
@@ -133,7 +134,7 @@ fn push_set(alloc: Global, out: &mut Vec<u8>, place: usize, set: &ByteSet) -> Re
 }
 
 /// Adds the lines of the sets that aren't full.
-fn push_sets(alloc: Global, out: &mut Vec<u8>, sets: &[ByteSet]) -> Result<(), AllocError>
+fn push_sets(alloc: Global, out: &mut Vec<u8>, sets: &[ByteSet]) -> Result<(), NoMemory>
     ensures { OnOk result (out.new.items ≡ out.old.items ++ joined (set_lines 0 (map has sets.now))) }
 {
     for (place, set) in sets.iter().enumerate() {
@@ -144,7 +145,7 @@ fn push_sets(alloc: Global, out: &mut Vec<u8>, sets: &[ByteSet]) -> Result<(), A
 
 /// Adds the lines after the sets.
 #[tactic(auto, unfolding(crate::specs::Text::tail))]
-fn push_tail(alloc: Global, out: &mut Vec<u8>, report: &Report) -> Result<(), AllocError>
+fn push_tail(alloc: Global, out: &mut Vec<u8>, report: &Report) -> Result<(), NoMemory>
     requires filled { All (λ set. 0 < size (has set)) report.now.sets }
     requires few { length report.now.sets ≤ 65536 }
     requires one_each { length report.now.sets ≡ length report.now.input }
@@ -159,7 +160,7 @@ fn push_tail(alloc: Global, out: &mut Vec<u8>, report: &Report) -> Result<(), Al
 /// Lines end with a line feed, the last too: `crash-report 1`, `program LENGTH SHA256`,
 /// `trap KIND PC VALUE`, `steps N`, `seed N`, `input N`, a line `data HEX` for each 32 bytes of the
 /// input, a line `set I SIZE HEX64` for each set that isn't full, `revealed B of T` and `end`.
-pub fn write_report(alloc: Global, report: &Report) -> Result<Bytes, AllocError>
+pub fn write_report(alloc: Global, report: &Report) -> Result<Bytes, NoMemory>
     ensures { IfOk result (λ written. written ≡ text (content_of report.now)) }
 {
     let mut out = Vec::new(alloc);

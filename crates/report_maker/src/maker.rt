@@ -19,11 +19,12 @@ use crate::mask::order_mask;
 use byte_groups::{GroupList, groups};
 use byte_sets::ByteSet;
 use elf32::Image;
+use no_memory::NoMemory;
 use report_format::{Bytes, Report, Sets};
 use report_laws::{choices_have_the_trace, groups_make_the_report};
 use rv_event::{End, Transcript, Trap};
 use sha2::{Digest, Sha256};
-use std::alloc::{AllocError, Global};
+use std::alloc::Global;
 use sym_replay::replay;
 use term_arena::Arena;
 
@@ -46,7 +47,7 @@ fn divide(
     image: &Image,
     transcript: &Transcript,
     arena: &mut Arena,
-) -> Result<GroupList, AllocError>
+) -> Result<GroupList, NoMemory>
     requires program { IsProgram (program_of image.now) }
     requires traced { (limit : ℕ) × (x : List ℕ) × IsCrash (program_of image.now) limit x transcript.now }
     ensures { IfOk result (λ groups.

@@ -5,14 +5,15 @@ ghost use Rattle.input_laws.specs.Inputs.{IsInput};
 ghost use Rattle.report_laws.specs.Mask.{mask};
 
 use crate::Bytes;
+use no_memory::NoMemory;
 use rand_core::{Rng, SeedableRng};
 use rand_pcg::Lcg64Xsh32;
-use std::alloc::{AllocError, Global};
+use std::alloc::Global;
 
 /// The mask of a seed for inputs of `n` bytes: the first `n` bytes of the seed's generator, or zero
 /// bytes for seed 0. Of two inputs that one comes first whose byte xor the mask's is less, at the
 /// first place at which they differ.
-pub fn order_mask(alloc: Global, seed: u64, n: u32) -> Result<Bytes, AllocError>
+pub fn order_mask(alloc: Global, seed: u64, n: u32) -> Result<Bytes, NoMemory>
     ensures bytes { IfOk result (λ bytes. bytes ≡ mask seed n) }
     ensures input { IfOk result (λ bytes. IsInput n bytes) }
 {

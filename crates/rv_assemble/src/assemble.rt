@@ -15,14 +15,15 @@ use crate::write::{
     FILE_HEADER_SIZE, PROGRAM_HEADER_SIZE, code_region, file_length, push_contents,
     push_file_header, push_program_header, push_program_headers,
 };
+use no_memory::NoMemory;
 use rv_decode::Instr;
-use std::alloc::{AllocError, Global};
+use std::alloc::Global;
 
 /// The bytes that a file may have, 16 MiB.
 const MOST_BYTES: u64 = 0x0100_0000;
 
 /// The file of the code's region and the others.
-fn file_of(alloc: Global, text: &Region, regions: &[Region]) -> Result<Vec<u8>, AllocError>
+fn file_of(alloc: Global, text: &Region, regions: &[Region]) -> Result<Vec<u8>, NoMemory>
     requires few { length regions.now ≤ 63 }
     requires small { length text.now.bytes + held regions.now ≤ 67108864 }
     ensures { IfOk result (λ file. file.items ≡ file_of (text.now ∷ regions.now)) }

@@ -8,8 +8,9 @@ ghost use Rattle.rv_assemble.specs.Parts.{Spells, code_region, held, file_length
 
 use crate::bytes::Bytes;
 use crate::region::Region;
+use no_memory::NoMemory;
 use rv_decode::{Instr, encode};
-use std::alloc::{AllocError, Global};
+use std::alloc::Global;
 
 /// The magic number, the class, the data encoding and the version.
 const IDENTIFICATION: [u8; 16] = [0x7f, b'E', b'L', b'F', 1, 1, 1, 0, 0, 0, 0, 0, 0, 0, 0, 0];
@@ -24,14 +25,14 @@ pub const PROGRAM_HEADER_SIZE: u32 = 32;
 const CODE_BASE: u32 = 0x0001_0000;
 
 /// Writes a field of two bytes.
-fn push_half(file: &mut Vec<u8>, n: u16) -> Result<(), AllocError>
+fn push_half(file: &mut Vec<u8>, n: u16) -> Result<(), NoMemory>
     ensures { OnOk result (file.new.items ≡ file.old.items ++ half n) }
 {
     file.extend_from_slice(&n.to_le_bytes())
 }
 
 /// Writes a field of four bytes.
-fn push_word(file: &mut Vec<u8>, n: u32) -> Result<(), AllocError>
+fn push_word(file: &mut Vec<u8>, n: u32) -> Result<(), NoMemory>
     ensures { OnOk result (file.new.items ≡ file.old.items ++ word n) }
 {
     file.extend_from_slice(&n.to_le_bytes())
@@ -39,7 +40,7 @@ fn push_word(file: &mut Vec<u8>, n: u32) -> Result<(), AllocError>
 
 /// Writes the header of a file with `count` program headers.
 #[tactic(auto, using(crate::proofs::Appends::regroup), unfolding(crate::specs::Layout::file_header))]
-pub fn push_file_header(file: &mut Vec<u8>, count: u16) -> Result<(), AllocError>
+pub fn push_file_header(file: &mut Vec<u8>, count: u16) -> Result<(), NoMemory>
     ensures { OnOk result (file.new.items ≡ file.old.items ++ file_header count) }
 {
     file.extend_from_slice(&IDENTIFICATION)?;
@@ -63,7 +64,7 @@ pub fn push_file_header(file: &mut Vec<u8>, count: u16) -> Result<(), AllocError
 }
 
 /// Writes fields of four bytes.
-fn push_words(file: &mut Vec<u8>, words: &[u32]) -> Result<(), AllocError>
+fn push_words(file: &mut Vec<u8>, words: &[u32]) -> Result<(), NoMemory>
     ensures { OnOk result (file.new.items ≡ file.old.items ++ flat_map word words.now) }
 {
     for n in words {
@@ -73,11 +74,7 @@ fn push_words(file: &mut Vec<u8>, words: &[u32]) -> Result<(), AllocError>
 }
 
 /// Writes the program header of a region whose bytes are at an offset in the file.
-pub fn push_program_header(
-    file: &mut Vec<u8>,
-    offset: u32,
-    region: &Region,
-) -> Result<(), AllocError>
+pub fn push_program_header(file: &mut Vec<u8>, offset: u32, region: &Region) -> Result<(), NoMemory>
     requires { length region.now.bytes < 2 ^ 32 }
     ensures { OnOk result (file.new.items ≡ file.old.items ++ program_header offset region.now) }
 {
@@ -101,7 +98,7 @@ pub fn push_program_headers(
     file: &mut Vec<u8>,
     mut offset: u32,
     regions: &[Region],
-) -> Result<(), AllocError>
+) -> Result<(), NoMemory>
     requires { offset + held regions.now < 2 ^ 32 }
     ensures { OnOk result (file.new.items ≡ file.old.items ++ program_headers offset regions.now) }
 {
@@ -113,7 +110,7 @@ pub fn push_program_headers(
 }
 
 /// Writes the bytes of the regions.
-pub fn push_contents(file: &mut Vec<u8>, regions: &[Region]) -> Result<(), AllocError>
+pub fn push_contents(file: &mut Vec<u8>, regions: &[Region]) -> Result<(), NoMemory>
     ensures { OnOk result (file.new.items ≡ file.old.items ++ contents regions.now) }
 {
     for region in regions {
@@ -123,7 +120,7 @@ pub fn push_contents(file: &mut Vec<u8>, regions: &[Region]) -> Result<(), Alloc
 }
 
 /// The bytes of the instructions' words.
-fn text_of(alloc: Global, code: &[Instr]) -> Result<Vec<u8>, AllocError>
+fn text_of(alloc: Global, code: &[Instr]) -> Result<Vec<u8>, NoMemory>
     requires { All IsWellFormed code.now }
     ensures spells { IfOk result (λ text. Spells text.items code.now) }
     ensures size { IfOk result (λ text. length text.items ≡ 4 * length code.now) }
@@ -136,7 +133,7 @@ fn text_of(alloc: Global, code: &[Instr]) -> Result<Vec<u8>, AllocError>
 }
 
 /// The region of the code, which can be read and executed.
-pub fn code_region(alloc: Global, code: &[Instr]) -> Result<Region, AllocError>
+pub fn code_region(alloc: Global, code: &[Instr]) -> Result<Region, NoMemory>
     requires formed { All IsWellFormed code.now }
     requires small { 4 * length code.now < 2 ^ 32 }
     ensures spells { IfOk result (λ r. Spells r.bytes code.now) }

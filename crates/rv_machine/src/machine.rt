@@ -13,10 +13,11 @@ ghost use Rattle.rv_machine.specs.Plain.{IsPlain};
 use crate::access::{bits, loaded, size_of};
 use elf32::Image;
 use memory_map::Memory;
+use no_memory::NoMemory;
 use rv_decode::{Cond, Instr, Width, decode};
 use rv_event::{End, Event, EventKind, Trap, TrapKind};
 use rv_word::alu;
-use std::alloc::{AllocError, Global};
+use std::alloc::Global;
 use std::marker::Model;
 
 /// -9 as a word, EBADF of Linux negated: no such descriptor.
@@ -77,7 +78,7 @@ impl Machine {
     /// A machine at the start of a program: the program counter at the entry, x2 at 0x7fff_ff00 in the
     /// stack, and every other register 0. It holds all memory that it will use.
     #[tactic(auto, unfolding(crate::specs::State::start))]
-    pub fn start(alloc: Global, image: &Image) -> Result<Machine, AllocError>
+    pub fn start(alloc: Global, image: &Image) -> Result<Machine, NoMemory>
         ensures state { IfOk result (λ m. m.state ≡ start image.now.entry image.now.segments) }
         ensures running { IfOk result (λ m. m.over ≡ false) }
         ensures unread { IfOk result (λ m. m.state.place ≡ 0) }

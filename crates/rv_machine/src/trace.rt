@@ -6,8 +6,9 @@ ghost use Rattle.rv_machine.specs.Trace.{trace, state_after, transcript_of, has_
 
 use crate::machine::Machine;
 use elf32::Image;
+use no_memory::NoMemory;
 use rv_event::{End, Events, Transcript};
-use std::alloc::{AllocError, Global};
+use std::alloc::Global;
 
 /// What comes of a run whose events are not kept.
 #[derive(Clone, Copy, Debug)]
@@ -51,7 +52,7 @@ fn transcribe(
     mut machine: Machine,
     input: &[u8],
     limit: u32,
-) -> Result<Transcript, AllocError>
+) -> Result<Transcript, NoMemory>
     requires running { machine.over ≡ false }
     requires place { machine.state.place ≤ length input.now }
     requires size { length input.now ≤ 65536 }
@@ -87,7 +88,7 @@ pub fn trace_of(
     image: &Image,
     input: &[u8],
     limit: u32,
-) -> Result<Transcript, AllocError>
+) -> Result<Transcript, NoMemory>
     requires { length input.now ≤ 65536 }
     ensures run { IfOk result (λ t. t ≡ transcript_of (program_of image.now) input.now limit) }
     ensures length { IfOk result (λ t. length t.events ≤ limit) }

@@ -26,7 +26,7 @@ mod steps;
 mod tests;
 mod written;
 
-use std::alloc::AllocError;
+use no_memory::NoMemory;
 use term_arena::{Arena, Term};
 use term_model::Op;
 
@@ -35,7 +35,7 @@ use term_model::Op;
 /// The operands are normal, as is what `make` answers, and so are constants and input bytes; where the operation is
 /// `Byte`, `b` is a constant below 4. An error comes only for want of memory. Terms that were in the arena keep their
 /// trees, after an error too; the arena may have grown by terms that no one was given.
-pub fn make(arena: &mut Arena, op: Op, a: Term, b: Term) -> Result<Term, AllocError>
+pub fn make(arena: &mut Arena, op: Op, a: Term, b: Term) -> Result<Term, NoMemory>
     requires first { a < length arena.old }
     requires second { b < length arena.old }
     requires first_is_normal { IsNormal (tree_of arena.old a) }

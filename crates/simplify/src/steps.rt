@@ -9,7 +9,7 @@ ghost use Rattle.simplify.specs.Steps.{IsStep, IsEqualityStep};
 
 use crate::rules::first_rule;
 use crate::written::Written;
-use std::alloc::AllocError;
+use no_memory::NoMemory;
 use term_arena::{Arena, Term};
 use term_model::Op;
 
@@ -25,7 +25,7 @@ pub(crate) enum Step {
 }
 
 /// Applies the first rule that fits.
-fn take_step(arena: &mut Arena, op: Op, a: Term, b: Term) -> Result<Step, AllocError>
+fn take_step(arena: &mut Arena, op: Op, a: Term, b: Term) -> Result<Step, NoMemory>
     requires first { a < length arena.old }
     requires second { b < length arena.old }
     ensures step { IfOk result (IsStep arena.new op (tree_of arena.old a) (tree_of arena.old b)) }
@@ -53,7 +53,7 @@ fn take_step(arena: &mut Arena, op: Op, a: Term, b: Term) -> Result<Step, AllocE
 }
 
 /// The normal form of `Eq(a, b)`. No rule writes anything but equalities for an equality.
-fn equality(arena: &mut Arena, a: Term, b: Term) -> Result<Term, AllocError>
+fn equality(arena: &mut Arena, a: Term, b: Term) -> Result<Term, NoMemory>
     requires first { a < length arena.old }
     requires second { b < length arena.old }
     ensures below { IfOk result (λ t. t < length arena.new) }
@@ -76,7 +76,7 @@ fn equality(arena: &mut Arena, a: Term, b: Term) -> Result<Term, AllocError>
 }
 
 /// The normal form of `Eq(Eq(t, 0), 0)`.
-fn is_not_zero(arena: &mut Arena, t: Term) -> Result<Term, AllocError>
+fn is_not_zero(arena: &mut Arena, t: Term) -> Result<Term, NoMemory>
     requires { t < length arena.old }
     ensures below { IfOk result (λ made. made < length arena.new) }
     ensures tree { IfOk result (λ made.
@@ -90,7 +90,7 @@ fn is_not_zero(arena: &mut Arena, t: Term) -> Result<Term, AllocError>
 }
 
 /// The normal form of an operation on two terms, which need not be normal.
-pub(crate) fn normal_form(arena: &mut Arena, op: Op, a: Term, b: Term) -> Result<Term, AllocError>
+pub(crate) fn normal_form(arena: &mut Arena, op: Op, a: Term, b: Term) -> Result<Term, NoMemory>
     requires first { a < length arena.old }
     requires second { b < length arena.old }
     ensures below { IfOk result (λ t. t < length arena.new) }

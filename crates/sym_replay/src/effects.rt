@@ -21,16 +21,16 @@ use crate::calls::{Reply, reply_to};
 use crate::state::State;
 use elf32::Image;
 use memory_map::Memory;
+use no_memory::NoMemory;
 use path_condition::byte_term;
 use rv_decode::{Instr, Width, decode};
 use rv_event::Event;
 use rv_word::AluOp;
 use simplify::make;
-use std::alloc::AllocError;
 use term_arena::{Arena, Op, Term};
 
 /// A term whose sign stands `distance` bits below bit 31, extended.
-fn extended(arena: &mut Arena, t: Term, distance: u32) -> Result<Term, AllocError>
+fn extended(arena: &mut Arena, t: Term, distance: u32) -> Result<Term, NoMemory>
     requires belongs { t < length arena.old }
     requires normal { IsNormal (tree_of arena.old t) }
     ensures term { IfOk result (IsTermOf arena.new (definitions.extended_term norm distance (tree_of arena.old t))) }
@@ -52,7 +52,7 @@ pub(crate) fn bits(integer: i32) -> u32
 impl State {
     /// The term of the half word at an address.
     #[tactic(auto, using(crate::proofs::StateLemmas::grown_state, crate::proofs::StateLemmas::grown_terms))]
-    fn half(&self, arena: &mut Arena, image: &Image, address: u32) -> Result<Term, AllocError>
+    fn half(&self, arena: &mut Arena, image: &Image, address: u32) -> Result<Term, NoMemory>
         requires { IsState arena.old self.now }
         ensures term { IfOk result (IsTermOf arena.new (definitions.half_term norm (terms_of arena.old (start_map image.now.segments) self.now).bytes address)) }
         ensures keeps { Extends arena.old arena.new }
@@ -70,7 +70,7 @@ impl State {
         image: &Image,
         width: Width,
         address: u32,
-    ) -> Result<Term, AllocError>
+    ) -> Result<Term, NoMemory>
         requires { IsState arena.old self.now }
         ensures term { IfOk result (IsTermOf arena.new (definitions.loaded_term norm (terms_of arena.old (start_map image.now.segments) self.now).bytes width address)) }
         ensures keeps { Extends arena.old arena.new }
@@ -102,7 +102,7 @@ impl State {
         address: u32,
         t: Term,
         k: u8,
-    ) -> Result<(), AllocError>
+    ) -> Result<(), NoMemory>
         requires state { IsState arena.old self.old }
         requires term { IsTermIn arena.old t }
         requires byte { k < 4 }
@@ -119,7 +119,7 @@ impl State {
 
     /// Puts the two lower bytes of a term at the addresses from one up.
     #[tactic(auto, using(crate::proofs::StateLemmas::grown_term), unfolding(replay_law::specs::Terms::put_trees))]
-    fn store_half(&mut self, arena: &mut Arena, address: u32, t: Term) -> Result<(), AllocError>
+    fn store_half(&mut self, arena: &mut Arena, address: u32, t: Term) -> Result<(), NoMemory>
         requires state { IsState arena.old self.old }
         requires term { IsTermIn arena.old t }
         ensures state { OnOk result (IsState arena.new self.new) }
@@ -135,7 +135,7 @@ impl State {
 
     /// Puts the four bytes of a term at the addresses from one up.
     #[tactic(auto, using(crate::proofs::StateLemmas::grown_term), unfolding(replay_law::specs::Terms::put_trees))]
-    fn store_word(&mut self, arena: &mut Arena, address: u32, t: Term) -> Result<(), AllocError>
+    fn store_word(&mut self, arena: &mut Arena, address: u32, t: Term) -> Result<(), NoMemory>
         requires state { IsState arena.old self.old }
         requires term { IsTermIn arena.old t }
         ensures state { OnOk result (IsState arena.new self.new) }
@@ -159,7 +159,7 @@ impl State {
         width: Width,
         address: u32,
         t: Term,
-    ) -> Result<(), AllocError>
+    ) -> Result<(), NoMemory>
         requires state { IsState arena.old self.old }
         requires term { IsTermIn arena.old t }
         ensures state { OnOk result (IsState arena.new self.new) }
@@ -182,7 +182,7 @@ impl State {
         arena: &mut Arena,
         address: u32,
         count: u32,
-    ) -> Result<(), AllocError>
+    ) -> Result<(), NoMemory>
         requires state { IsState arena.old self.old }
         requires fits { self.old.place + count < 2 ^ 32 }
         ensures state { OnOk result (IsState arena.new self.new) }
@@ -208,7 +208,7 @@ impl State {
         arena: &mut Arena,
         register: u8,
         immediate: u32,
-    ) -> Result<Term, AllocError>
+    ) -> Result<Term, NoMemory>
         requires state { IsState arena.old self.now }
         requires register { register < 32 }
         ensures term { IfOk result (IsTermOf arena.new (norm (Alu Add) (register_tree arena.old self.now register) (Const immediate))) }
@@ -220,12 +220,7 @@ impl State {
     }
 
     /// Puts a constant into a register.
-    fn put_constant(
-        &mut self,
-        arena: &mut Arena,
-        register: u8,
-        value: u32,
-    ) -> Result<(), AllocError>
+    fn put_constant(&mut self, arena: &mut Arena, register: u8, value: u32) -> Result<(), NoMemory>
         requires state { IsState arena.old self.old }
         requires register { register < 32 }
         ensures state { OnOk result (IsState arena.new self.new) }
@@ -248,7 +243,7 @@ impl State {
         op: AluOp,
         a: Term,
         b: Term,
-    ) -> Result<(), AllocError>
+    ) -> Result<(), NoMemory>
         requires state { IsState arena.old self.old }
         requires register { register < 32 }
         requires first { IsTermIn arena.old a }
@@ -273,7 +268,7 @@ impl State {
         op: AluOp,
         first: u8,
         immediate: u32,
-    ) -> Result<(), AllocError>
+    ) -> Result<(), NoMemory>
         requires state { IsState arena.old self.old }
         requires register { register < 32 }
         requires first { first < 32 }
@@ -297,7 +292,7 @@ impl State {
         width: Width,
         register: u8,
         address: u32,
-    ) -> Result<(), AllocError>
+    ) -> Result<(), NoMemory>
         requires state { IsState arena.old self.old }
         requires register { register < 32 }
         ensures state { OnOk result (IsState arena.new self.new) }
@@ -312,7 +307,7 @@ impl State {
     }
 
     /// What a call leaves, by its reply.
-    fn answer(&mut self, arena: &mut Arena, event: &Event, reply: Reply) -> Result<(), AllocError>
+    fn answer(&mut self, arena: &mut Arena, event: &Event, reply: Reply) -> Result<(), NoMemory>
         requires state { IsState arena.old self.old }
         requires fits { self.old.place + moved reply < 2 ^ 32 }
         ensures state { OnOk result (IsState arena.new self.new) }
@@ -339,7 +334,7 @@ impl State {
         memory: &Memory,
         n: u32,
         event: &Event,
-    ) -> Result<(), AllocError>
+    ) -> Result<(), NoMemory>
         requires state { IsState arena.old self.old }
         requires place { self.old.place ≤ n }
         ensures state { OnOk result (IsState arena.new self.new) }
@@ -362,7 +357,7 @@ impl State {
         n: u32,
         event: &Event,
         instr: Instr,
-    ) -> Result<(), AllocError>
+    ) -> Result<(), NoMemory>
         requires state { IsState arena.old self.old }
         requires well_formed { IsWellFormed instr }
         requires memory { memory.now ≡ start_map image.now.segments }
@@ -423,7 +418,7 @@ impl State {
         memory: &Memory,
         n: u32,
         event: &Event,
-    ) -> Result<(), AllocError>
+    ) -> Result<(), NoMemory>
         requires state { IsState arena.old self.old }
         requires memory { memory.now ≡ start_map image.now.segments }
         requires place { self.old.place ≤ n }

@@ -24,16 +24,16 @@ ghost use Rattle.sym_replay.specs.Pins.{call_conditions};
 use crate::effects::bits;
 use crate::state::State;
 use elf32::Image;
+use no_memory::NoMemory;
 use path_condition::Conditions;
 use rv_decode::{Cond, Instr, decode};
 use rv_event::{Event, EventKind};
 use rv_word::{AluOp, byte_of};
 use simplify::make;
-use std::alloc::AllocError;
 use term_arena::{Arena, Op, Term};
 
 /// Adds that a truth term is 0.
-fn add_fails(conditions: &mut Conditions, arena: &mut Arena, t: Term) -> Result<(), AllocError>
+fn add_fails(conditions: &mut Conditions, arena: &mut Arena, t: Term) -> Result<(), NoMemory>
     requires listed { Belong arena.old conditions.old }
     requires term { IsTermIn arena.old t }
     ensures trees { OnOk result (trees_of arena.new conditions.new
@@ -54,7 +54,7 @@ fn add_comparison(
     a: Term,
     b: Term,
     holds: bool,
-) -> Result<(), AllocError>
+) -> Result<(), NoMemory>
     requires listed { Belong arena.old conditions.old }
     requires first { IsTermIn arena.old a }
     requires second { IsTermIn arena.old b }
@@ -80,7 +80,7 @@ fn add_outcome(
     a: Term,
     b: Term,
     taken: bool,
-) -> Result<(), AllocError>
+) -> Result<(), NoMemory>
     requires listed { Belong arena.old conditions.old }
     requires first { IsTermIn arena.old a }
     requires second { IsTermIn arena.old b }
@@ -108,7 +108,7 @@ fn add_fetched_byte(
     address: u32,
     word: u32,
     k: u8,
-) -> Result<(), AllocError>
+) -> Result<(), NoMemory>
     requires listed { Belong arena.old conditions.old }
     requires state { IsState arena.old state.now }
     requires byte { k < 4 }
@@ -132,7 +132,7 @@ fn add_fetch(
     state: &State,
     address: u32,
     word: u32,
-) -> Result<(), AllocError>
+) -> Result<(), NoMemory>
     requires listed { Belong arena.old conditions.old }
     requires state { IsState arena.old state.now }
     ensures trees { OnOk result (trees_of arena.new conditions.new
@@ -156,7 +156,7 @@ fn add_register(
     state: &State,
     register: u8,
     value: u32,
-) -> Result<(), AllocError>
+) -> Result<(), NoMemory>
     requires listed { Belong arena.old conditions.old }
     requires state { IsState arena.old state.now }
     requires register { register < 32 }
@@ -176,7 +176,7 @@ fn add_call(
     arena: &mut Arena,
     state: &State,
     call: [u32; 4],
-) -> Result<(), AllocError>
+) -> Result<(), NoMemory>
     requires listed { Belong arena.old conditions.old }
     requires state { IsState arena.old state.now }
     ensures trees { (image : Map) →
@@ -201,7 +201,7 @@ fn add_branch(
     target: u32,
     next: u32,
     shown: u32,
-) -> Result<(), AllocError>
+) -> Result<(), NoMemory>
     requires listed { Belong arena.old conditions.old }
     requires first { IsTermIn arena.old a }
     requires second { IsTermIn arena.old b }
@@ -224,7 +224,7 @@ fn add_address(
     register: u8,
     immediate: u32,
     address: u32,
-) -> Result<(), AllocError>
+) -> Result<(), NoMemory>
     requires listed { Belong arena.old conditions.old }
     requires state { IsState arena.old state.now }
     requires register { register < 32 }
@@ -245,7 +245,7 @@ fn add_jump(
     register: u8,
     immediate: u32,
     target: u32,
-) -> Result<(), AllocError>
+) -> Result<(), NoMemory>
     requires listed { Belong arena.old conditions.old }
     requires state { IsState arena.old state.now }
     requires register { register < 32 }
@@ -267,7 +267,7 @@ fn add_row(
     event: &Event,
     shown: u32,
     instr: Instr,
-) -> Result<(), AllocError>
+) -> Result<(), NoMemory>
     requires listed { Belong arena.old conditions.old }
     requires state { IsState arena.old state.now }
     requires well_formed { IsWellFormed instr }
@@ -325,7 +325,7 @@ fn add_word(
     state: &State,
     event: &Event,
     shown: u32,
-) -> Result<(), AllocError>
+) -> Result<(), NoMemory>
     requires listed { Belong arena.old conditions.old }
     requires state { IsState arena.old state.now }
     ensures trees { OnOk result (trees_of arena.new conditions.new
@@ -350,7 +350,7 @@ pub(crate) fn add_event(
     state: &State,
     event: &Event,
     shown: u32,
-) -> Result<(), AllocError>
+) -> Result<(), NoMemory>
     requires listed { Belong arena.old conditions.old }
     requires state { IsState arena.old state.now }
     ensures trees { OnOk result (trees_of arena.new conditions.new

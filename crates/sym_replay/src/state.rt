@@ -14,9 +14,10 @@ ghost use Rattle.sym_replay.specs.States.{terms_of, register_tree, IsTermIn, IsS
 
 use crate::image;
 use elf32::Image;
+use no_memory::NoMemory;
 use rv_word::AluOp;
 use simplify::make;
-use std::alloc::{AllocError, Global};
+use std::alloc::Global;
 use std::collections::BTreeMap;
 use term_arena::{Arena, Op, Term};
 
@@ -31,7 +32,7 @@ pub(crate) struct State {
 
 impl State {
     /// The state at the start of a program.
-    pub(crate) fn start(alloc: Global, arena: &mut Arena) -> Result<State, AllocError>
+    pub(crate) fn start(alloc: Global, arena: &mut Arena) -> Result<State, NoMemory>
         ensures state { IfOk result (IsState arena.new) }
         ensures terms { (image : Map) → IfOk result (λ s. terms_of arena.new image s ≡ start_terms image) }
         ensures keeps { Extends arena.old arena.new }
@@ -77,7 +78,7 @@ impl State {
         arena: &mut Arena,
         image: &Image,
         address: u32,
-    ) -> Result<Term, AllocError>
+    ) -> Result<Term, NoMemory>
         requires { IsState arena.old self.now }
         ensures term { IfOk result (IsTermOf arena.new ((terms_of arena.old (start_map image.now.segments) self.now).bytes address)) }
         ensures keeps { Extends arena.old arena.new }
@@ -89,7 +90,7 @@ impl State {
     }
 
     /// Puts a term at an address.
-    pub(crate) fn put_byte(&mut self, address: u32, t: Term) -> Result<(), AllocError>
+    pub(crate) fn put_byte(&mut self, address: u32, t: Term) -> Result<(), NoMemory>
         ensures state { (trees : List Tree) → IsState trees self.old → IsTermIn trees t →
             OnOk result (IsState trees self.new) }
         ensures terms { (trees : List Tree) (image : Map) →

@@ -15,9 +15,10 @@ use crate::pins::add_event;
 use crate::state::State;
 use elf32::Image;
 use memory_map::Memory;
+use no_memory::NoMemory;
 use path_condition::Conditions;
 use rv_event::{End, Event, Transcript};
-use std::alloc::{AllocError, Global};
+use std::alloc::Global;
 use term_arena::Arena;
 use trace_conditions::{conditions_are_proper, conditions_hold_of_the_class};
 
@@ -52,7 +53,7 @@ pub fn replay(
     image: &Image,
     transcript: &Transcript,
     arena: &mut Arena,
-) -> Result<Conditions, AllocError>
+) -> Result<Conditions, NoMemory>
     ensures trees { IfOk result (λ c. trees_of arena.new c ≡ conditions_of (program_of image.now) transcript.now) }
     ensures class { (limit : ℕ) (x y : List ℕ) → IsProgram (program_of image.now) →
         IsCrash (program_of image.now) limit x transcript.now → IsInput transcript.now.n y →

@@ -9,6 +9,7 @@ ghost use Rattle.term_arena.specs.Mask.{each_byte, mask_of};
 
 use crate::nodes::{Node, Term};
 use crate::zero_bytes::{self, ZeroBytes};
+use no_memory::NoMemory;
 use std::alloc::{AllocError, Global};
 use std::collections::BTreeMap;
 use std::marker::Model;
@@ -46,7 +47,7 @@ impl Model for Arena {
 
 impl Arena {
     /// An arena with no terms.
-    pub fn new(alloc: Global) -> Result<Arena, AllocError>
+    pub fn new(alloc: Global) -> Result<Arena, NoMemory>
         ensures empty { IfOk result (λ arena. arena ≡ []) }
     {
         Ok(Arena {
@@ -112,7 +113,7 @@ impl Arena {
     }
 
     /// The term of a node, which is there or is put at the end.
-    fn place(&mut self, node: Node) -> Result<Term, AllocError>
+    fn place(&mut self, node: Node) -> Result<Term, NoMemory>
         requires { IsNodeAt (length self.old) node }
         ensures below { IfOk result (λ t. t < length self.new) }
         ensures tree { IfOk result (λ t. tree_of self.new t ≡ tree_from self.old node) }
@@ -136,7 +137,7 @@ impl Arena {
     }
 
     /// The term of a constant. After a refusal the arena is as before.
-    pub fn constant(&mut self, v: u32) -> Result<Term, AllocError>
+    pub fn constant(&mut self, v: u32) -> Result<Term, NoMemory>
         ensures below { IfOk result (λ t. t < length self.new) }
         ensures tree { IfOk result (λ t. tree_of self.new t ≡ Const v) }
         ensures keeps { Extends self.old self.new }
@@ -149,7 +150,7 @@ impl Arena {
 
     /// The term of the byte of the input at place `i`, counted from 0. After a refusal the arena is
     /// as before.
-    pub fn input(&mut self, i: u32) -> Result<Term, AllocError>
+    pub fn input(&mut self, i: u32) -> Result<Term, NoMemory>
         ensures below { IfOk result (λ t. t < length self.new) }
         ensures tree { IfOk result (λ t. tree_of self.new t ≡ Input i) }
         ensures keeps { Extends self.old self.new }
@@ -162,7 +163,7 @@ impl Arena {
 
     /// The term of an operation on two terms. Nothing is simplified. After a refusal the arena is
     /// as before.
-    pub fn intern(&mut self, op: Op, a: Term, b: Term) -> Result<Term, AllocError>
+    pub fn intern(&mut self, op: Op, a: Term, b: Term) -> Result<Term, NoMemory>
         requires first { a < length self.old }
         requires second { b < length self.old }
         ensures below { IfOk result (λ t. t < length self.new) }

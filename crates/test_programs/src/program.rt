@@ -12,12 +12,13 @@ ghost use Rattle.test_programs.specs.Program.{IsProgram, has_other, cannot_load}
 use crate::error::ProgramError;
 use crate::memory::cannot_load;
 use elf32::{Image, read_image};
+use no_memory::NoMemory;
 use rv_assemble::{BuildError, Bytes, Region, build};
 use rv_decode::{Instr, decode};
-use std::alloc::{AllocError, Global};
+use std::alloc::Global;
 
 /// The instructions that words stand for, if each stands for one.
-fn instructions(alloc: Global, words: &[u32]) -> Result<Option<Vec<Instr>>, AllocError>
+fn instructions(alloc: Global, words: &[u32]) -> Result<Option<Vec<Instr>>, NoMemory>
     ensures stand { IfOk result (λ some. IfSome some (λ code. map decoded words.now ≡ map Some code.items)) }
     ensures formed { IfOk result (λ some. IfSome some (λ code. All IsWellFormed code.items)) }
     ensures other { IfOk result (λ some. IfNone some (has_other words.now ≡ true)) }

@@ -15,7 +15,8 @@ use crate::decide::{close_trail, make_ready};
 use crate::trail::Trail;
 use crate::watches::Watches;
 use gate_net::{Formula, Lit};
-use std::alloc::{AllocError, Global};
+use no_memory::NoMemory;
+use std::alloc::Global;
 use std::marker::Model;
 
 /// Clauses of a formula and learned ones, and the closure that the last close took.
@@ -43,7 +44,7 @@ impl Model for Closer {
 
 impl Closer {
     /// A closer of the formula, with no learned clause.
-    pub fn load(alloc: Global, formula: &Formula) -> Result<Closer, AllocError>
+    pub fn load(alloc: Global, formula: &Formula) -> Result<Closer, NoMemory>
         ensures names { IfOk result (λ closer. closer.names ≡ formula.now.names) }
         ensures formula { IfOk result (λ closer. closer.formula ≡ formula.now.clauses) }
         ensures learned { IfOk result (λ closer. closer.learned ≡ []) }
@@ -100,7 +101,7 @@ impl Closer {
     }
 
     /// Puts a clause at the end of the learned ones. On an error nothing has changed.
-    pub fn learn(&mut self, clause: &[Lit]) -> Result<(), AllocError>
+    pub fn learn(&mut self, clause: &[Lit]) -> Result<(), NoMemory>
         requires { AreNamed self.old.names clause.now }
         ensures names { IfOk result (λ _. self.new.names ≡ self.old.names) }
         ensures formula { IfOk result (λ _. self.new.formula ≡ self.old.formula) }

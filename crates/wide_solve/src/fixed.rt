@@ -15,7 +15,8 @@ ghost use Rattle.wide_laws.specs.Sets.{fixed_from, has_roots, force_roots, yes_n
 
 use clause_form::gate_clauses;
 use gate_net::{Lit, Net};
-use std::alloc::{AllocError, Global};
+use no_memory::NoMemory;
+use std::alloc::Global;
 use unit_close::{Closed, Closer};
 
 /// Whether the root is yes, or in the closure that the closer took last.
@@ -67,7 +68,7 @@ fn bits_kept(
     closer: &mut Closer,
     roots: &[Lit],
     order: &[Lit],
-) -> Result<Vec<Lit>, AllocError>
+) -> Result<Vec<Lit>, NoMemory>
     requires roots { AreNamed closer.old.names roots.now }
     requires order { AreNamed closer.old.names order.now }
     requires calm { (bits : List Lit) → ((l : Lit) → Contains bits l → Contains order.now l) →
@@ -96,7 +97,7 @@ pub(crate) fn fixed_bits(
     net: &Net,
     roots: &[Lit],
     order: &[Lit],
-) -> Result<Vec<Lit>, AllocError>
+) -> Result<Vec<Lit>, NoMemory>
     requires roots { AreNamed (length net.now) roots.now }
     requires possible { All (λ l. signed_of net.now l ≢ no) roots.now }
     requires order { AreNamed (length net.now) order.now }

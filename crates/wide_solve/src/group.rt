@@ -22,7 +22,8 @@ use byte_sets::Sets;
 use clause_solver::SolveError;
 use gate_net::{Lit, Net};
 use group_model::Group;
-use std::alloc::{AllocError, Global};
+use no_memory::NoMemory;
+use std::alloc::Global;
 use std::marker::Model;
 use term_arena::Arena;
 
@@ -52,11 +53,7 @@ impl<'a> Model for WideGroup<'a> {
 
 impl<'a> WideGroup<'a> {
     /// Makes the gates of a group's conditions.
-    pub fn new(
-        alloc: Global,
-        arena: &'a Arena,
-        group: &'a Group,
-    ) -> Result<WideGroup<'a>, AllocError>
+    pub fn new(alloc: Global, arena: &'a Arena, group: &'a Group) -> Result<WideGroup<'a>, NoMemory>
         requires group { IsGroup arena.now group.now.places group.now.conditions }
         requires some { 0 < length group.now.places }
         ensures places { IfOk result (λ wide. wide.places ≡ group.now.places) }
@@ -119,7 +116,7 @@ impl<'a> WideGroup<'a> {
     /// byte for each place, and these meet the group's conditions. The bits of the places are freed
     /// one after another, from the highest bit of the first place, where the others force the
     /// conditions; a byte may have the values that agree with its own at its bits that stay fixed.
-    pub fn sets(&self, alloc: Global, first: &[u8]) -> Result<Sets, AllocError>
+    pub fn sets(&self, alloc: Global, first: &[u8]) -> Result<Sets, NoMemory>
         requires long { length first.now ≡ length self.now.places }
         requires meets { (y : List ℕ) × AreBytes y × HasAt self.now.places first.now y × Hold self.now.conditions y }
         ensures count { IfOk result (λ sets. length sets ≡ length self.now.places) }

@@ -31,7 +31,8 @@ pub use bytes::Bytes;
 pub use error::{Wide, WideError};
 pub use group::WideGroup;
 use group_model::Group;
-use std::alloc::{AllocError, Global};
+use no_memory::NoMemory;
+use std::alloc::Global;
 use term_arena::Arena;
 
 /// The group's first bytes under a mask: those that meet its conditions and come before all others
@@ -66,7 +67,7 @@ pub fn wide_sets(
     arena: &Arena,
     group: &Group,
     first: &[u8],
-) -> Result<Sets, AllocError>
+) -> Result<Sets, NoMemory>
     requires group { IsGroup arena.now group.now.places group.now.conditions }
     requires some { 0 < length group.now.places }
     requires long { length first.now ≡ length group.now.places }
