@@ -4,7 +4,8 @@ ghost use Rattle.term_model.specs.Conditions.{Hold};
 ghost use Rattle.term_arena.specs.Trees.{tree_of, Extends, trees_of};
 ghost use Rattle.group_model.specs.Conditions.{IsCondition};
 ghost use Rattle.group_model.specs.Group.{IsGroup};
-ghost use Rattle.group_tests.specs.Sums.{whole_sum, sum_byte, IsTermOf};
+ghost use Rattle.group_tests.specs.Sums.{whole_sum, sum_byte};
+ghost use Rattle.term_arena.specs.Trees.{IsTermOf};
 
 use byte_groups::groups;
 use group_model::{Group, Places, Terms};
@@ -75,7 +76,7 @@ fn equal_bytes(alloc: Global, arena: &mut Arena) -> Result<Group, AllocError>
 
 /// The sum of the first two bytes.
 fn sum_of_first_two(arena: &mut Arena) -> Result<Term, AllocError>
-    ensures term { IfOk result (λ t. IsTermOf arena.new t whole_sum) }
+    ensures term { IfOk result (IsTermOf arena.new whole_sum) }
     ensures keeps { Extends arena.old arena.new }
 {
     let first = arena.input(0)?;
@@ -86,8 +87,8 @@ fn sum_of_first_two(arena: &mut Arena) -> Result<Term, AllocError>
 
 /// The condition that byte `k` of the sum of the first two bytes has this value.
 fn sum_byte_is(arena: &mut Arena, sum: Term, k: u32, value: u32) -> Result<Term, AllocError>
-    requires sum { IsTermOf arena.old sum whole_sum }
-    ensures term { IfOk result (λ t. IsTermOf arena.new t (sum_byte k value)) }
+    requires sum { IsTermOf arena.old whole_sum sum }
+    ensures term { IfOk result (IsTermOf arena.new (sum_byte k value)) }
     ensures keeps { Extends arena.old arena.new }
 {
     let number = arena.constant(k)?;

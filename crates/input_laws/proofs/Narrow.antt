@@ -12,7 +12,7 @@ use Rattle.input_laws.specs.Narrow.{IsOnly, IsPair, freed_beside}
 use Rattle.input_laws.proofs.Inputs.{Among, among_bytes}
 
 -- An item in the set is among those that are kept.
-among_filter : (set : ℕ → Bool) (b : ℕ) (xs : List ℕ) → set b ≡ true → Among b xs → Among b (filter set xs)
+pub among_filter : (set : ℕ → Bool) (b : ℕ) (xs : List ℕ) → set b ≡ true → Among b xs → Among b (filter set xs)
 among_filter set b [] t a = absurd a
 among_filter set b (x ∷ xs) t (inl e) = rw (rw e at t) (inl e)
 among_filter set b (x ∷ xs) t (inr a) = kept (set x) (among_filter set b xs t a)
@@ -22,7 +22,7 @@ among_filter set b (x ∷ xs) t (inr a) = kept (set x) (among_filter set b xs t 
     kept false h = h
 
 -- What holds of all items holds of each.
-list_all_among : (test : ℕ → Bool) (b : ℕ) (xs : List ℕ) → list_all test xs ≡ true → Among b xs → test b ≡ true
+pub list_all_among : (test : ℕ → Bool) (b : ℕ) (xs : List ℕ) → list_all test xs ≡ true → Among b xs → test b ≡ true
 list_all_among test b [] t a = absurd a
 list_all_among test b (x ∷ xs) t (inl e) = rw e (and_parts (test x) (list_all test xs) t).0
 list_all_among test b (x ∷ xs) t (inr a) = list_all_among test b xs (and_parts (test x) (list_all test xs) t).1 a

@@ -11,6 +11,7 @@ use Rattle.input_laws.specs.Sets.{freed}
 use Rattle.input_laws.specs.Narrow.{freed_beside}
 use Rattle.input_laws.proofs.Bound.{bytes_in_range}
 use Rattle.input_laws.proofs.Inputs.{Among, among_bytes, contains_from_among}
+use Rattle.input_laws.proofs.Narrow.{among_filter, list_all_among}
 use Rattle.group_model.proofs.HoldLemmas.{one_truth}
 use Rattle.narrow_solve.specs.Tried.{with_pair}
 
@@ -77,22 +78,6 @@ freed_beside_of_byte test set y i j w b = rw (lt-ltb w 256 b) refl
 
 -- ---- a test of each value of a set
 
--- an item in the set is kept
-among_filter : (set : ℕ → Bool) (b : ℕ) (xs : List ℕ) → set b ≡ true → Among b xs → Among b (filter set xs)
-among_filter set b [] t a = absurd a
-among_filter set b (x ∷ xs) t (inl e) = rw (rw e at t) (inl e)
-among_filter set b (x ∷ xs) t (inr a) = kept (set x) (among_filter set b xs t a)
-  where
-    kept : (s : Bool) → Among b (filter set xs) → Among b (cond s (x ∷ filter set xs) (filter set xs))
-    kept true h = inr h
-    kept false h = h
-
--- what holds of all items holds of each
-all_among : (test : ℕ → Bool) (b : ℕ) (xs : List ℕ) → list_all test xs ≡ true → Among b xs → test b ≡ true
-all_among test b [] t a = absurd a
-all_among test b (x ∷ xs) t (inl e) = rw e (and_parts (test x) (list_all test xs) t).0
-all_among test b (x ∷ xs) t (inr a) = all_among test b xs (and_parts (test x) (list_all test xs) t).1 a
-
 -- a test that passes for each item of the set passes for all that are kept
 all_kept : (test set : ℕ → Bool) (xs : List ℕ) → ((v : ℕ) → Among v xs → set v ≡ true → test v ≡ true) → list_all test (filter set xs) ≡ true
 all_kept test set [] h = refl
@@ -151,7 +136,7 @@ module _ (test : List ℕ → Bool) (set : ℕ → Bool) (y now : List ℕ) (i t
   pub one_failed : turn < 256 → set turn ≡ true → test (slice_set now i turn) ≡ false → list_all (λ v. test (slice_set y i v)) (filter set bytes) ≡ false
   one_failed l is e =
       not_true (list_all (λ v. test (slice_set y i v)) (filter set bytes)) (λ all.
-      let passes : test (slice_set y i turn) ≡ true = all_among (λ v. test (slice_set y i v)) turn (filter set bytes) all (among_filter set turn bytes is (among_bytes turn l)) in
+      let passes : test (slice_set y i turn) ≡ true = list_all_among (λ v. test (slice_set y i v)) turn (filter set bytes) all (among_filter set turn bytes is (among_bytes turn l)) in
       let fails : test (slice_set y i turn) ≡ false = ap test (sym (so_far.aside turn)) ∙ e in
       cc)
 

@@ -17,7 +17,8 @@ use Rattle.normal_form.specs.EqualityRules.{xor_across_equality, add_across_equa
 use Rattle.normal_form.specs.OrderRules.{less_than_zero, less_than_one, more_than_zero, one_byte_is_less}
 use Rattle.normal_form.specs.ByteRules.{byte_is_zero, byte_of_one_byte, byte_of_pair, byte_of_half, byte_beside_zero, byte_under_mask, byte_of_left_shift, byte_of_right_shift, pair_with_zero, half_with_zero, pair_of_own_bytes, half_of_own_bytes, is_byte_of}
 use Rattle.normal_form.specs.Rules.{first_fit, first_rule, ordering_rules, arithmetic_rules, bitwise_rules, equality_rules, order_rules, byte_rules, joining_rules}
-use Rattle.normal_form.specs.Normal.{IsNormal, TakesByteNumber}
+use Rattle.normal_form.specs.Normal.{IsNormal}
+use Rattle.term_model.specs.ByteNumber.{TakesByteNumber}
 use Rattle.normal_form.specs.Norm.{carried_out}
 use Rattle.normal_form.proofs.PlanLemmas.{when, either, first_fit_holds}
 use Rattle.normal_form.proofs.ValueLemmas.{less_is, at_most_is}

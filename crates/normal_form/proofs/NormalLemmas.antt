@@ -11,7 +11,8 @@ use Rattle.normal_form.specs.ArithmeticRules.{fold_constants, constant_to_the_ri
 use Rattle.normal_form.specs.Rules.{first_fit, first_rule, ordering_rules, arithmetic_rules, bitwise_rules, equality_rules, order_rules, byte_rules, joining_rules}
 use Rattle.normal_form.specs.Norm.{carried_out, after_rule, norm, plan_weight, measure}
 use Rattle.term_model.specs.Places.{ReadsNothing}
-use Rattle.normal_form.specs.Normal.{IsNormal, TakesByteNumber}
+use Rattle.normal_form.specs.Normal.{IsNormal}
+use Rattle.term_model.specs.ByteNumber.{TakesByteNumber}
 use Rattle.normal_form.specs.Laws.{plan_value}
 use Rattle.normal_form.proofs.PlanLemmas.{either, either_first, none_left, none_right, first_fit_holds}
 use Rattle.normal_form.proofs.WeightLemmas.{Lowers, rule_lowers, op_weight_pos}

@@ -25,7 +25,7 @@ use Rattle.normal_form.specs.ArithmeticRules.{fold_constants, constant_to_the_ri
 use Rattle.normal_form.specs.EqualityRules.{xor_across_equality, add_across_equality, difference_is_zero, truth_is_one, double_negation, truth_is_no_larger, zero_byte_differs, differs_at_byte}
 use Rattle.normal_form.specs.OrderRules.{less_than_zero, less_than_one, more_than_zero, one_byte_is_less}
 use Rattle.normal_form.specs.ByteRules.{byte_is_zero, byte_of_one_byte, byte_of_pair, byte_of_half, byte_beside_zero, byte_under_mask, byte_of_left_shift, byte_of_right_shift, pair_with_zero, half_with_zero, pair_of_own_bytes, half_of_own_bytes, is_byte_of}
-use Rattle.normal_form.specs.Normal.{TakesByteNumber}
+use Rattle.term_model.specs.ByteNumber.{TakesByteNumber}
 use Rattle.normal_form.specs.Laws.{plan_value}
 use Rattle.normal_form.proofs.PlanLemmas.{when, either}
 use Rattle.normal_form.proofs.NumberLemmas.{told, number_is, sra_zero, div_one, rem_one, not_less_than_itself, mulh_comm, mulh_zero, mulhsu_zero, or_assoc, and_ones, or_ones, masked_byte, xor_across, add_across, xor_is_zero, sub_is_zero, shl_shl, shl_out, shr_out, byte_sra, byte_of_low, byte_of_high, byte_of_lower, byte_of_upper, one_byte, half_word, pair_of_bytes, half_of_bytes}

@@ -8,7 +8,8 @@ use Rattle.normal_form.specs.Plan.{Plan, Is, Make, Rule}
 use Rattle.normal_form.specs.ArithmeticRules.{constant_to_the_right, reduce_shift_amount}
 use Rattle.normal_form.specs.Rules.{first_rule}
 use Rattle.normal_form.specs.Norm.{weight, plan_weight, after_rule}
-use Rattle.normal_form.specs.Normal.{IsNormal, TakesByteNumber}
+use Rattle.normal_form.specs.Normal.{IsNormal}
+use Rattle.term_model.specs.ByteNumber.{TakesByteNumber}
 
 -- the value of what a plan writes
 abbrev pub plan_value : Plan → List ℕ → ℕ

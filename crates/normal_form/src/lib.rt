@@ -19,7 +19,8 @@ ghost use Rattle.normal_form.specs.OrderRules.{less_than_zero, less_than_one, mo
 ghost use Rattle.normal_form.specs.ByteRules.{byte_is_zero, byte_of_one_byte, byte_of_pair, byte_of_half, byte_beside_zero, byte_under_mask, byte_of_left_shift, byte_of_right_shift, pair_with_zero, half_with_zero, pair_of_own_bytes, half_of_own_bytes};
 ghost use Rattle.normal_form.specs.Rules.{first_rule};
 ghost use Rattle.normal_form.specs.Norm.{norm};
-ghost use Rattle.normal_form.specs.Normal.{IsNormal, TakesByteNumber};
+ghost use Rattle.normal_form.specs.Normal.{IsNormal};
+ghost use Rattle.term_model.specs.ByteNumber.{TakesByteNumber};
 ghost use Rattle.normal_form.specs.Laws.{AreNormalOperands, KeepsValue, KeepsValueOfReducedShift, LowersWeight, Settles, FollowsTable};
 
 /// Each rule for constants, arithmetic, bitwise operations and shifts keeps the value.

@@ -27,7 +27,7 @@ abbrev pub named : List Tree → Sum → Tree × ℕ
 named trees s = (tree_of trees s.term, s.word)
 
 -- a term of the arena, with this tree, which is normal
-pub record IsTermOf (trees : List Tree) (tree : Tree) (t : ℕ) : Type 0 where
+pub record IsNormalTermOf (trees : List Tree) (tree : Tree) (t : ℕ) : Type 0 where
   pub belongs : t < length trees
   pub is : tree_of trees t ≡ tree
   pub normal : IsNormal tree

@@ -10,7 +10,7 @@ ghost use Rattle.normal_form.specs.Norm.{norm};
 ghost use Rattle.normal_form.specs.Normal.{IsNormal};
 ghost use Rattle.replay_law.specs.Forms as shape;
 ghost use Rattle.path_condition.specs.Listed.{Belong};
-ghost use Rattle.path_condition.specs.Sums.{constant_of, sum_of, even_sum_of, named, IsTermOf};
+ghost use Rattle.path_condition.specs.Sums.{constant_of, sum_of, even_sum_of, named, IsNormalTermOf};
 
 use no_memory::NoMemory;
 use rv_word::{AluOp, byte_of};
@@ -29,7 +29,7 @@ pub fn byte_term(arena: &mut Arena, t: Term, k: u8) -> Result<Term, NoMemory>
     requires belongs { t < length arena.old }
     requires normal { IsNormal (tree_of arena.old t) }
     requires byte { k < 4 }
-    ensures made { IfOk result (IsTermOf arena.new (shape.byte_term norm k (tree_of arena.old t))) }
+    ensures made { IfOk result (IsNormalTermOf arena.new (shape.byte_term norm k (tree_of arena.old t))) }
     ensures keeps { Extends arena.old arena.new }
 {
     let number = arena.constant(u32::from(k))?;
@@ -41,7 +41,7 @@ fn byte_is(arena: &mut Arena, t: Term, value: u32, k: u8) -> Result<Term, NoMemo
     requires belongs { t < length arena.old }
     requires normal { IsNormal (tree_of arena.old t) }
     requires byte { k < 4 }
-    ensures made { IfOk result (IsTermOf arena.new (shape.byte_is norm (tree_of arena.old t) value k)) }
+    ensures made { IfOk result (IsNormalTermOf arena.new (shape.byte_is norm (tree_of arena.old t) value k)) }
     ensures keeps { Extends arena.old arena.new }
 {
     let byte = byte_term(arena, t, k)?;
@@ -56,7 +56,7 @@ fn same_byte(arena: &mut Arena, a: Term, b: Term, k: u8) -> Result<Term, NoMemor
     requires normal_first { IsNormal (tree_of arena.old a) }
     requires normal_second { IsNormal (tree_of arena.old b) }
     requires byte { k < 4 }
-    ensures made { IfOk result (IsTermOf arena.new (shape.same_byte norm (tree_of arena.old a) (tree_of arena.old b) k)) }
+    ensures made { IfOk result (IsNormalTermOf arena.new (shape.same_byte norm (tree_of arena.old a) (tree_of arena.old b) k)) }
     ensures keeps { Extends arena.old arena.new }
 {
     let first = byte_term(arena, a, k)?;
@@ -68,7 +68,7 @@ fn same_byte(arena: &mut Arena, a: Term, b: Term, k: u8) -> Result<Term, NoMemor
 fn low_byte_is(arena: &mut Arena, sum: Term, target: u32) -> Result<Term, NoMemory>
     requires belongs { sum < length arena.old }
     requires normal { IsNormal (tree_of arena.old sum) }
-    ensures made { IfOk result (IsTermOf arena.new (norm Eq (norm (Alu And) (shape.byte_term norm 0 (tree_of arena.old sum)) (Const 254)) (Const (byte_number 0 target)))) }
+    ensures made { IfOk result (IsNormalTermOf arena.new (norm Eq (norm (Alu And) (shape.byte_term norm 0 (tree_of arena.old sum)) (Const 254)) (Const (byte_number 0 target)))) }
     ensures keeps { Extends arena.old arena.new }
 {
     let byte = byte_term(arena, sum, 0)?;

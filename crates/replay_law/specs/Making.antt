@@ -2,27 +2,17 @@
 use Rattle.std.specs.Prelude.{◌≡◌, ℕ, ◌<◌, ◌^◌, List, true, ◌⊎◌}
 use Rattle.rv_word.specs.declared.AluOp.TheVariants.{Slt, Sltu}
 use Rattle.term_model.specs.declared.Op.{Op}
-use Rattle.term_model.specs.declared.Op.TheVariants.{Alu, Eq, Byte}
+use Rattle.term_model.specs.declared.Op.TheVariants.{Alu, Eq}
 use Rattle.term_model.specs.Tree.{Tree, Const, Input, Apply}
 use Rattle.term_model.specs.Value.{val, op_value}
 use Rattle.term_model.specs.Words.{HasWords, AreBytes}
+use Rattle.term_model.specs.ByteNumber.{TakesByteNumber}
 use Rattle.term_model.specs.Places.{ReadsBelow, ReadsNothing}
 use Rattle.term_model.specs.Truth.{is_truth}
 
 -- the term that is made for an operation on two terms
 abbrev pub Making : Type 0
 Making = Op → Tree → Tree → Tree
-
--- a constant that names a byte of a word
-abbrev pub IsByteNumber : Tree → Type 0
-IsByteNumber (Const k) = k < 4
-IsByteNumber (Input i) = ⊥
-IsByteNumber (Apply op a b) = ⊥
-
--- the second operand names a byte, where the operation takes one
-abbrev pub TakesByteNumber : Op → Tree → Type 0
-TakesByteNumber Byte b = IsByteNumber b
-TakesByteNumber op b = Unit {0}
 
 -- A maker of terms. `IsMade` says which terms it takes and gives: constants, bytes of the input, and what it makes of
 -- such terms. What it makes has the operation's value, and the operands of such a term are such terms.

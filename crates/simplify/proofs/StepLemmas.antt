@@ -11,7 +11,8 @@ use Rattle.term_arena.proofs.TreeLemmas.{extends_itself, extends_then}
 use Rattle.normal_form.specs.Plan.{Is, Make}
 use Rattle.normal_form.specs.Rules.{first_rule}
 use Rattle.normal_form.specs.Norm.{norm}
-use Rattle.normal_form.specs.Normal.{IsNormal, TakesByteNumber}
+use Rattle.normal_form.specs.Normal.{IsNormal}
+use Rattle.term_model.specs.ByteNumber.{TakesByteNumber}
 use Rattle.normal_form.proofs.MakeLemmas.{norm_of_rule, norm_of_none, measure_of_one}
 use Rattle.normal_form.proofs.NormalLemmas.{norm_normal, norm_good}
 use Rattle.simplify.specs.Steps.{IsMade, LeadsTo, LeadsToNotZero, IsOnTheWay}

@@ -10,7 +10,8 @@ ghost use Rattle.term_model.specs.Value.{op_value, val};
 ghost use Rattle.term_model.specs.Words.{AreBytes};
 ghost use Rattle.term_arena.specs.Trees.{tree_of, Extends};
 ghost use Rattle.normal_form.specs.Norm.{norm};
-ghost use Rattle.normal_form.specs.Normal.{IsNormal, TakesByteNumber};
+ghost use Rattle.normal_form.specs.Normal.{IsNormal};
+ghost use Rattle.term_model.specs.ByteNumber.{TakesByteNumber};
 
 mod arithmetic;
 mod bitwise;

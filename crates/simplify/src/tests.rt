@@ -3,7 +3,8 @@
 ghost use Rattle.std.specs.Prelude.{◌<◌, ◌≤◌, All, length, IfOk, IfSome};
 ghost use Rattle.term_model.specs.Tree.{Const};
 ghost use Rattle.term_arena.specs.Trees.{tree_of};
-ghost use Rattle.normal_form.specs.Normal.{IsNormal, TakesByteNumber};
+ghost use Rattle.normal_form.specs.Normal.{IsNormal};
+ghost use Rattle.term_model.specs.ByteNumber.{TakesByteNumber};
 
 use crate::make;
 use crate::steps::normal_form;

@@ -8,7 +8,7 @@ use Rattle.term_arena.specs.Trees.{tree_of, Extends, trees_of}
 use Rattle.normal_form.specs.Normal.{IsNormal}
 use Rattle.memory_map.specs.Cells.{Map, next_address}
 use Rattle.replay_law.specs.Terms.{Terms, with_tree, put_trees, input_terms}
-use Rattle.path_condition.specs.Sums.{IsTermOf}
+use Rattle.path_condition.specs.Sums.{IsNormalTermOf}
 use Rattle.path_condition.proofs.ListLemmas.{grown_trees}
 use Rattle.sym_replay.specs.declared.state.State.{State}
 use Rattle.sym_replay.specs.States.{byte_tree, terms_of, IsTermIn, IsState}
@@ -67,9 +67,9 @@ pub constant_term : (trees : List Tree) (t v : ℕ) → t < length trees → tre
 constant_term trees t v lt e word = record { belongs = lt; normal = subst IsNormal (sym e) word }
 
 -- a term that was put at an address
-pub found_term : (trees : List Tree) (image : Map) (s : State) (a t : ℕ) → IsState trees s → (o : Option ℕ) → Some t ≡ o → get nat_cmp s.bytes a ≡ o → IsTermOf trees (byte_tree trees image a o) t
+pub found_term : (trees : List Tree) (image : Map) (s : State) (a t : ℕ) → IsState trees s → (o : Option ℕ) → Some t ≡ o → get nat_cmp s.bytes a ≡ o → IsNormalTermOf trees (byte_tree trees image a o) t
 found_term trees image s a t h o e f =
-    subst (λ (p : Option ℕ). IsTermOf trees (byte_tree trees image a p) t) e
+    subst (λ (p : Option ℕ). IsNormalTermOf trees (byte_tree trees image a p) t) e
     (let here = h.bytes a t (f ∙ sym e) in record { belongs = here.belongs; is = refl; normal = here.normal })
 
 -- terms with others in memory

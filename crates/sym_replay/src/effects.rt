@@ -13,7 +13,7 @@ ghost use Rattle.rv_machine.specs.State.{bits as bits_of};
 ghost use Rattle.replay_law.specs.Terms.{reg_term, put_reg, put_trees, with_tree};
 ghost use Rattle.replay_law.specs.Terms as definitions;
 ghost use Rattle.replay_law.specs.Forms.{byte_term as byte_of_term};
-ghost use Rattle.path_condition.specs.Sums.{IsTermOf};
+ghost use Rattle.path_condition.specs.Sums.{IsNormalTermOf};
 ghost use Rattle.sym_replay.specs.Replies.{reply_of, moved};
 ghost use Rattle.sym_replay.specs.States.{terms_of, register_tree, IsTermIn, IsState};
 
@@ -33,7 +33,7 @@ use term_arena::{Arena, Op, Term};
 fn extended(arena: &mut Arena, t: Term, distance: u32) -> Result<Term, NoMemory>
     requires belongs { t < length arena.old }
     requires normal { IsNormal (tree_of arena.old t) }
-    ensures term { IfOk result (IsTermOf arena.new (definitions.extended_term norm distance (tree_of arena.old t))) }
+    ensures term { IfOk result (IsNormalTermOf arena.new (definitions.extended_term norm distance (tree_of arena.old t))) }
     ensures keeps { Extends arena.old arena.new }
 {
     let amount = arena.constant(distance)?;
@@ -54,7 +54,7 @@ impl State {
     #[tactic(auto, using(crate::proofs::StateLemmas::grown_state, crate::proofs::StateLemmas::grown_terms))]
     fn half(&self, arena: &mut Arena, image: &Image, address: u32) -> Result<Term, NoMemory>
         requires { IsState arena.old self.now }
-        ensures term { IfOk result (IsTermOf arena.new (definitions.half_term norm (terms_of arena.old (start_map image.now.segments) self.now).bytes address)) }
+        ensures term { IfOk result (IsNormalTermOf arena.new (definitions.half_term norm (terms_of arena.old (start_map image.now.segments) self.now).bytes address)) }
         ensures keeps { Extends arena.old arena.new }
     {
         let low = self.byte(arena, image, address)?;
@@ -72,7 +72,7 @@ impl State {
         address: u32,
     ) -> Result<Term, NoMemory>
         requires { IsState arena.old self.now }
-        ensures term { IfOk result (IsTermOf arena.new (definitions.loaded_term norm (terms_of arena.old (start_map image.now.segments) self.now).bytes width address)) }
+        ensures term { IfOk result (IsNormalTermOf arena.new (definitions.loaded_term norm (terms_of arena.old (start_map image.now.segments) self.now).bytes width address)) }
         ensures keeps { Extends arena.old arena.new }
     {
         match width {
@@ -211,7 +211,7 @@ impl State {
     ) -> Result<Term, NoMemory>
         requires state { IsState arena.old self.now }
         requires register { register < 32 }
-        ensures term { IfOk result (IsTermOf arena.new (norm (Alu Add) (register_tree arena.old self.now register) (Const immediate))) }
+        ensures term { IfOk result (IsNormalTermOf arena.new (norm (Alu Add) (register_tree arena.old self.now register) (Const immediate))) }
         ensures keeps { Extends arena.old arena.new }
     {
         let base = self.register(arena, register);

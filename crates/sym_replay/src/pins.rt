@@ -6,7 +6,8 @@ ghost use Rattle.term_model.specs.declared.Op.TheVariants.{Alu};
 ghost use Rattle.term_model.specs.Tree.{Tree, Const};
 ghost use Rattle.term_arena.specs.Trees.{tree_of, Extends, trees_of};
 ghost use Rattle.normal_form.specs.Norm.{norm};
-ghost use Rattle.normal_form.specs.Normal.{IsNormal, TakesByteNumber};
+ghost use Rattle.normal_form.specs.Normal.{IsNormal};
+ghost use Rattle.term_model.specs.ByteNumber.{TakesByteNumber};
 ghost use Rattle.memory_map.specs.Cells.{Map, start_map, next_address};
 ghost use Rattle.rv_decode.specs.Rows.{IsWellFormed};
 ghost use Rattle.rv_machine.specs.State.{bits as bits_of};
@@ -17,7 +18,7 @@ ghost use Rattle.replay_law.specs.Terms as definitions;
 ghost use Rattle.replay_law.specs.Follow.{fetched_byte, fetch_conditions, row_conditions, instr_conditions, conditions_of};
 ghost use Rattle.rv_decode.specs.Table.{decoded};
 ghost use Rattle.path_condition.specs.Listed.{Belong};
-ghost use Rattle.path_condition.specs.Sums.{IsTermOf};
+ghost use Rattle.path_condition.specs.Sums.{IsNormalTermOf};
 ghost use Rattle.sym_replay.specs.States.{terms_of, register_tree, IsTermIn, IsState};
 ghost use Rattle.sym_replay.specs.Pins.{call_conditions};
 

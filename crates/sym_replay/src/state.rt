@@ -9,7 +9,7 @@ ghost use Rattle.normal_form.specs.Norm.{norm};
 ghost use Rattle.memory_map.specs.Cells.{Map, start_map, next_address};
 ghost use Rattle.replay_law.specs.Terms.{reg_term, put_reg, put_trees, with_tree, start_terms};
 ghost use Rattle.replay_law.specs.Terms as definitions;
-ghost use Rattle.path_condition.specs.Sums.{IsTermOf};
+ghost use Rattle.path_condition.specs.Sums.{IsNormalTermOf};
 ghost use Rattle.sym_replay.specs.States.{terms_of, register_tree, IsTermIn, IsState};
 
 use crate::image;
@@ -80,7 +80,7 @@ impl State {
         address: u32,
     ) -> Result<Term, NoMemory>
         requires { IsState arena.old self.now }
-        ensures term { IfOk result (IsTermOf arena.new ((terms_of arena.old (start_map image.now.segments) self.now).bytes address)) }
+        ensures term { IfOk result (IsNormalTermOf arena.new ((terms_of arena.old (start_map image.now.segments) self.now).bytes address)) }
         ensures keeps { Extends arena.old arena.new }
     {
         match self.bytes.get(&address) {

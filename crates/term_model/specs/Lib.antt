@@ -1,6 +1,7 @@
 pub mod Tree
 pub mod Value
 pub mod Words
+pub mod ByteNumber
 pub mod Places
 pub mod ZeroBytes
 pub mod Truth

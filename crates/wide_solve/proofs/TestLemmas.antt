@@ -12,10 +12,11 @@ use Rattle.term_model.proofs.PlaceLemmas.{reads_are_below}
 use Rattle.term_arena.specs.Trees.{tree_of, Extends, trees_of}
 use Rattle.group_model.specs.Conditions.{IsCondition}
 use Rattle.group_model.specs.Group.{IsAscending, IsGroup, HasAt}
-use Rattle.wide_solve.specs.Tests.{odd_or, sum, IsTermOf}
+use Rattle.wide_solve.specs.Tests.{odd_or, sum}
+use Rattle.term_arena.specs.Trees.{IsTermOf}
 
 -- a term keeps its tree where terms are added
-pub stays : (old new : List Tree) (t : ℕ) (tree : Tree) → Extends old new → IsTermOf old t tree → IsTermOf new t tree
+pub stays : (old new : List Tree) (t : ℕ) (tree : Tree) → Extends old new → IsTermOf old tree t → IsTermOf new tree t
 stays old new t tree more term = record {
   belongs = let l : t < length old = term.belongs in let m : length old ≤ length new = more.longer in omega arith;
   is = more.same t term.belongs ∙ term.is;
@@ -36,14 +37,14 @@ ascending (suc zero) (suc (suc zero)) d l m = omega arith
 ascending (suc (suc i)) (suc (suc zero)) d l m = absurd (omega (arith, l))
 ascending i (suc (suc (suc j))) d l m = absurd (omega (arith, m))
 
-module _ (trees : List Tree) (t : ℕ) (tree : Tree) (term : IsTermOf trees t tree) where
+module _ (trees : List Tree) (t : ℕ) (tree : Tree) (term : IsTermOf trees tree t) where
   condition : (place : ℕ) → is_truth tree ≡ true → reads tree place ≡ true → IsCondition trees t
   condition place truth read = record { belongs = term.belongs; truth = ap is_truth term.is ∙ truth; place = place; read = ap (λ s. reads s place) term.is ∙ read }
 
   within : ReadsBelow 3 tree → (i : ℕ) → reads (tree_of trees t) i ≡ true → Contains (0 ∷ 1 ∷ 2 ∷ []) i
   within below i e = among i (reads_are_below 3 tree below i (sym (ap (λ s. reads s i) term.is) ∙ e))
 
-module _ (trees : List Tree) (a b c : ℕ) (first : IsTermOf trees a (odd_or 0 1 0)) (second : IsTermOf trees b (odd_or 0 1 1)) (third : IsTermOf trees c (odd_or 1 2 0)) where
+module _ (trees : List Tree) (a b c : ℕ) (first : IsTermOf trees (odd_or 0 1 0) a) (second : IsTermOf trees (odd_or 0 1 1) b) (third : IsTermOf trees (odd_or 1 2 0) c) where
   conditions : All (IsCondition trees) (a ∷ b ∷ c ∷ [])
   conditions zero other l = condition trees a (odd_or 0 1 0) first 0 refl refl
   conditions (suc zero) other l = condition trees b (odd_or 0 1 1) second 0 refl refl
@@ -65,7 +66,7 @@ module _ (trees : List Tree) (a b c : ℕ) (first : IsTermOf trees a (odd_or 0 1
   triple_holds (suc (suc zero)) other l = ap (λ s. val s (1 ∷ 0 ∷ 1 ∷ [])) third.is
   triple_holds (suc (suc (suc k))) other l = absurd (omega arith)
 
-module _ (trees : List Tree) (a : ℕ) (term : IsTermOf trees a (Apply Eq sum sum)) where
+module _ (trees : List Tree) (a : ℕ) (term : IsTermOf trees (Apply Eq sum sum) a) where
   one_condition : All (IsCondition trees) (a ∷ [])
   one_condition zero other l = condition trees a (Apply Eq sum sum) term 0 refl refl
   one_condition (suc k) other l = absurd (omega arith)

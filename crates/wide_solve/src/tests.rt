@@ -7,7 +7,8 @@ ghost use Rattle.term_model.specs.Words.{AreBytes};
 ghost use Rattle.term_model.specs.Conditions.{Hold};
 ghost use Rattle.term_arena.specs.Trees.{trees_of, Extends};
 ghost use Rattle.group_model.specs.Group.{IsGroup, HasAt};
-ghost use Rattle.wide_solve.specs.Tests.{odd_or, sum, IsTermOf};
+ghost use Rattle.wide_solve.specs.Tests.{odd_or, sum};
+ghost use Rattle.term_arena.specs.Trees.{IsTermOf};
 
 use crate::{WideError, first_wide, wide_sets};
 use byte_sets::ByteSet;
@@ -19,7 +20,7 @@ use term_arena::{Arena, Op, Term};
 
 /// The condition that bit 0 of byte `i`, or of byte `j` with that bit turned by the mask, is 1.
 fn odd_or(arena: &mut Arena, i: u32, j: u32, mask: u32) -> Result<Term, AllocError>
-    ensures term { IfOk result (λ t. IsTermOf arena.new t (odd_or i j mask)) }
+    ensures term { IfOk result (IsTermOf arena.new (odd_or i j mask)) }
     ensures keeps { Extends arena.old arena.new }
 {
     let second = arena.input(j)?;
@@ -34,7 +35,7 @@ fn odd_or(arena: &mut Arena, i: u32, j: u32, mask: u32) -> Result<Term, AllocErr
 
 /// A sum of three bytes.
 fn sum(arena: &mut Arena) -> Result<Term, AllocError>
-    ensures { IfOk result (λ t. IsTermOf arena.new t sum) }
+    ensures { IfOk result (IsTermOf arena.new sum) }
 {
     let first = arena.input(0)?;
     let second = arena.input(1)?;
