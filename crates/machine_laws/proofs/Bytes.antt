@@ -1,9 +1,12 @@
 -- Memory holds bytes, and loads give words.
-use Rattle.std.proofs.Common.{◌≡◌, ℕ, zero, suc, ◌/◌, ◌%◌, ◌^◌, ◌<◌, List, [], ◌∷◌, get_or, Bool, true, false, cond, Option, Some, None, refl, sym, ap, ◌∙◌, arith, All}
+use Rattle.std.proofs.Common.{◌≡◌, ℕ, ◌-◌, zero, suc, ◌/◌, ◌%◌, ◌^◌, ◌<◌, List, [], ◌∷◌, get_or, Bool, true, false, cond, Option, Some, None, refl, sym, ap, ◌∙◌, arith, All}
 use Rattle.std.specs.FinMap.{get, get-insert}
 use Rattle.std.specs.Cmp.{nat_cmp_total}
 use Rattle.std.specs.Ordering.{nat_cmp, eq_by_cmp}
 use Rattle.memory_map.specs.Cells.{Map, Cell, with_byte, placed, next_address, byte_of_cell, byte_at, half_at, word_at}
+use Rattle.memory_map.specs.Heaps.{heap_cell, with_break}
+use Rattle.memory_map.specs.Layout.{is_among}
+use Rattle.memory_map.proofs.Heaps.{get-with_break}
 use Rattle.rv_decode.specs.declared.instr.Width.{Width}
 use Rattle.rv_decode.specs.declared.instr.Width.TheVariants as widths
 use Rattle.rv_machine.specs.Effects.{loaded, stored, input_bytes}
@@ -36,6 +39,17 @@ pub placed_bytes : (bs : List ℕ) (m : Map) (a : ℕ) → Bytes bs → HoldsByt
 unfolding placed
 placed_bytes [] m a each h = h
 placed_bytes (b ∷ bs) m a each h = placed_bytes bs _ _ (λ k d l. each (suc k) d (omega arith)) (write_bytes m a b (get m a) (each 0 0 (omega arith)) h)
+
+-- ---- the break
+
+moved_byte : (u v : Bool) (c : Cell) (o : Option Cell) → ((x : Cell) → o ≡ Some x → x.byte < 256) → cond u None (cond v (Some heap_cell) o) ≡ Some c → c.byte < 256
+moved_byte true v c o h e = cc
+moved_byte false true c o h e = (let f : heap_cell ≡ c = cc in omega (arith, ap (λ (x : Cell). x.byte) f))
+moved_byte false false c o h e = h c e
+
+-- memory is one of bytes after the break has moved
+pub break_bytes : (m : Map) (old new : ℕ) → HoldsBytes m → HoldsBytes (with_break m old new)
+break_bytes m old new h = λ q c e. moved_byte (is_among new (old - new) q) (is_among old (new - old) q) c (get m q) (h q) (sym (get-with_break m old new q) ∙ e)
 
 -- ---- what is read
 

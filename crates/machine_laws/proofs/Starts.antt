@@ -6,6 +6,7 @@ use Rattle.std.specs.Cmp.{nat_cmp_total}
 use Rattle.std.specs.FinMap.{find, from_entries, get-from_entries}
 use Rattle.elf32.specs.declared.segments.Segment.{Segment}
 use Rattle.memory_map.specs.Cells.{Cell, cells_from, segment_cells, stack_cells, start_map}
+use Rattle.memory_map.proofs.HeapStarts.{start_break}
 use Rattle.rv_machine.specs.State.{start}
 use Rattle.machine_laws.specs.Kept.{IsState, HoldsBytes}
 
@@ -79,5 +80,6 @@ start_kept x entry ss l a h = record {
   pc = l;
   aligned = a;
   memory = start_bytes ss h;
+  heap = start_break ss;
   place = omega arith;
 }

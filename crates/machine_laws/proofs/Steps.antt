@@ -1,7 +1,9 @@
 -- A step keeps what holds of each state.
-use Rattle.std.proofs.Common.{◌≡◌, ℕ, zero, suc, ◌+◌, ◌-◌, ◌%◌, ◌^◌, ◌<◌, ◌≤◌, ◌==◌, ◌||◌, List, [], ◌∷◌, length, get_or, set, min, Bool, true, false, cond, Option, Some, None, refl, ◌∙◌, arith, length-set}
+use Rattle.std.proofs.Common.{◌≡◌, ℕ, zero, suc, ◌+◌, ◌-◌, ◌%◌, ◌^◌, ◌<◌, ◌≤◌, ◌==◌, ◌||◌, List, [], ◌∷◌, length, get_or, set, min, Bool, true, false, cond, Option, Some, None, IfSome, nat_lt, refl, ◌∙◌, arith, length-set}
 use Rattle.std.proofs.lemmas.Bool.Decides.{nat_tests}
 use Rattle.memory_map.specs.Cells.{Map, first_without, read, write, execute, word_at, placed}
+use Rattle.memory_map.specs.declared.heap.Heap.{Heap}
+use Rattle.memory_map.specs.Heaps.{may_break, with_break}
 use Rattle.rv_word.specs.Word.{alu}
 use Rattle.rv_word.proofs.Words.{word_below}
 use Rattle.rv_decode.specs.Table.{decoded}
@@ -9,12 +11,13 @@ use Rattle.rv_decode.specs.declared.instr.Width.{Width}
 use Rattle.rv_decode.specs.declared.instr.Instr.{Instr}
 use Rattle.rv_decode.specs.declared.instr.Instr.TheVariants.{Lui, Auipc, Jal, Jalr, Branch, Load, Store, AluImm, AluReg, Fence, Ecall, Ebreak}
 use Rattle.rv_event.specs.declared.event.TrapKind.TheVariants as traps
-use Rattle.rv_machine.specs.State.{State, Goes, reg, write_reg, at, following, bits, trap}
-use Rattle.rv_machine.specs.Calls.{Reply, Answers, Moves, Exits, bad_descriptor, no_such_call, if_none, read_reply, write_reply, reply_to}
-use Rattle.rv_machine.specs.Effects.{goes_on, jump, taken, loaded, stored, input_bytes, address_of, even, after_load, after_store, after_call, effect, executed, after_fetch, step}
+use Rattle.rv_event.specs.declared.event.End.TheVariants as ends
+use Rattle.rv_machine.specs.State.{State, Goes, Ends, reg, write_reg, at, following, bits, trap}
+use Rattle.rv_machine.specs.Calls.{Reply, Answers, Moves, Breaks, Exits, bad_descriptor, no_such_call, if_none, read_reply, write_reply, break_reply, reply_to}
+use Rattle.rv_machine.specs.Effects.{goes_on, jump, exit, taken, loaded, stored, input_bytes, address_of, even, after_load, after_store, after_call, effect, executed, after_fetch, step}
 use Rattle.machine_laws.specs.Kept.{IsState, Keeps, HoldsBytes}
 use Rattle.machine_laws.proofs.Words.{alu_fits}
-use Rattle.machine_laws.proofs.Bytes.{Bytes, placed_bytes, loaded_fits, stored_fits, input_fits}
+use Rattle.machine_laws.proofs.Bytes.{Bytes, break_bytes, placed_bytes, loaded_fits, stored_fits, input_fits}
 
 -- ---- registers
 
@@ -39,6 +42,7 @@ written_kept x rd v s false e l h = record {
   pc = h.pc;
   aligned = h.aligned;
   memory = h.memory;
+  heap = h.heap;
   place = h.place;
 }
 
@@ -48,7 +52,7 @@ register_kept x rd v s l h = written_kept x rd v s (rd == 0) refl l h
 -- ---- the program counter
 
 at_kept : (x : List ℕ) (t : ℕ) (s : State) → t < 2 ^ 32 → t % 4 ≡ 0 → IsState x s → IsState x (at t s)
-at_kept x t s l a h = record { count = h.count; words = h.words; zero_register = h.zero_register; pc = l; aligned = a; memory = h.memory; place = h.place }
+at_kept x t s l a h = record { count = h.count; words = h.words; zero_register = h.zero_register; pc = l; aligned = a; memory = h.memory; heap = h.heap; place = h.place }
 
 next_fits : (pc : ℕ) → following pc < 2 ^ 32
 next_fits pc = omega arith
@@ -90,7 +94,7 @@ load_kept x s width rd a None h = goes_kept x s rd (loaded s.memory width a) (lo
 load_kept x s width rd a (Some fault) h = refl
 
 with_memory : (x : List ℕ) (s : State) (m : Map) (p : ℕ) → HoldsBytes m → p ≤ length x → IsState x s → IsState x (record s { memory = m; place = p })
-with_memory x s m p b l h = record { count = h.count; words = h.words; zero_register = h.zero_register; pc = h.pc; aligned = h.aligned; memory = b; place = l }
+with_memory x s m p b l h = record { count = h.count; words = h.words; zero_register = h.zero_register; pc = h.pc; aligned = h.aligned; memory = b; heap = h.heap; place = l }
 
 store_kept : (x : List ℕ) (s : State) (width : Width) (value a : ℕ) (o : Option ℕ) → IsState x s → Keeps (IsState x) (after_store s width value a o)
 store_kept x s width value a None h =
@@ -104,6 +108,7 @@ store_kept x s width value a (Some fault) h = refl
 abbrev IsReply : ℕ → Reply → Type 0
 IsReply left (Answers v) = v < 2 ^ 32
 IsReply left (Moves k) = (k < 2 ^ 32) × (k ≤ left)
+IsReply left (Breaks heap a) = a < 2 ^ 32
 IsReply left (Exits code) = Unit {0}
 
 if_none_kept : (left : ℕ) (o : Option ℕ) (reply : Reply) → IsReply left reply → IsReply left (if_none o reply)
@@ -120,22 +125,36 @@ read_kept m left a0 a1 a2 l = either_kept left (a0 == 0) _ (Answers bad_descript
 write_kept : (m : Map) (left a0 a1 a2 : ℕ) → a2 < 2 ^ 32 → IsReply left (write_reply m a0 a1 a2)
 write_kept m left a0 a1 a2 l = either_kept left ((a0 == 1) || (a0 == 2)) _ (Answers bad_descriptor) (if_none_kept left (first_without read m a1 a2) (Answers a2) l) (omega arith)
 
-reply_kept : (m : Map) (left a7 a0 a1 a2 : ℕ) → a2 < 2 ^ 32 → IsReply left (reply_to m left a7 a0 a1 a2)
+break_kept : (heap : Option Heap) (left a0 : ℕ) → IfSome heap (λ h. h.brk < 2 ^ 32) → a0 < 2 ^ 32 → IsReply left (break_reply heap a0)
+break_kept None left a0 h l = omega arith
+break_kept (Some heap) left a0 h l = either_kept left (may_break heap a0) (Breaks heap a0) (Answers heap.brk) l h
+
+reply_kept : (m : Map) (heap : Option Heap) (left a7 a0 a1 a2 : ℕ) → IfSome heap (λ h. h.brk < 2 ^ 32) → a0 < 2 ^ 32 → a2 < 2 ^ 32 → IsReply left (reply_to m heap left a7 a0 a1 a2)
 unfolding reply_to
-reply_kept m left a7 a0 a1 a2 l =
+reply_kept m heap left a7 a0 a1 a2 h k l =
     either_kept left (a7 == 63) (read_reply m left a0 a1 a2) _ (read_kept m left a0 a1 a2 l)
     (either_kept left (a7 == 64) (write_reply m a0 a1 a2) _ (write_kept m left a0 a1 a2 l)
-    (either_kept left ((a7 == 93) || (a7 == 94)) (Exits a0) (Answers no_such_call) tt (omega arith)))
+    (either_kept left ((a7 == 93) || (a7 == 94)) (Exits a0) _ tt
+    (either_kept left (a7 == 214) (break_reply heap a0) (Answers no_such_call) (break_kept heap left a0 h k) (omega arith))))
 
 moved_kept : (x : List ℕ) (s : State) (k : ℕ) → Bytes x → k ≤ length x - s.place → IsState x s → IsState x (record s { memory = placed s.memory (reg s 11) (input_bytes x s.place k); place = s.place + k })
 moved_kept x s k b l h =
     let within : s.place ≤ length x = h.place in
     with_memory x s (placed s.memory (reg s 11) (input_bytes x s.place k)) (s.place + k) (placed_bytes (input_bytes x s.place k) s.memory (reg s 11) (input_fits k s.place x b) h.memory) (omega arith) h
 
+with_heap : (x : List ℕ) (s : State) (m : Map) (heap : Heap) → HoldsBytes m → heap.brk < 2 ^ 32 → IsState x s → IsState x (record s { memory = m; heap = Some heap })
+with_heap x s m heap b l h = record { count = h.count; words = h.words; zero_register = h.zero_register; pc = h.pc; aligned = h.aligned; memory = b; heap = l; place = h.place }
+
+exit_kept : (x : List ℕ) (pc code : ℕ) → Keeps (IsState x) (exit pc code)
+exit_kept x pc code = elim (nat_lt code 128) as (λ t. Keeps (IsState x) (cond t (Ends (ends.Exit code)) (trap pc traps.Abort code))) [ true ↦ refl | false ↦ refl ]
+
 call_kept : (x : List ℕ) (s : State) (reply : Reply) → Bytes x → IsReply (length x - s.place) reply → IsState x s → Keeps (IsState x) (after_call x s reply)
 call_kept x s (Answers v) b r h = goes_kept x s 10 v r h
 call_kept x s (Moves k) b r h = goes_kept x (record s { memory = placed s.memory (reg s 11) (input_bytes x s.place k); place = s.place + k }) 10 k r.0 (moved_kept x s k b r.1 h)
-call_kept x s (Exits code) b r h = refl
+call_kept x s (Breaks heap a) b r h =
+    goes_kept x (record s { memory = with_break s.memory heap.brk a; heap = Some (record { start = heap.start; brk = a }) }) 10 a r
+    (with_heap x s (with_break s.memory heap.brk a) (record { start = heap.start; brk = a }) (break_bytes s.memory heap.brk a h.memory) r h)
+call_kept x s (Exits code) b r h = exit_kept x s.pc code
 
 -- ---- instructions
 
@@ -151,7 +170,7 @@ effect_kept x s w (Store width rs1 rs2 imm) b h = store_kept x s width (reg s rs
 effect_kept x s w (AluImm op rd rs1 imm) b h = goes_kept x s rd (alu op (reg s rs1) (bits imm)) (alu_fits op _ _ (h.words rs1) (word_below imm)) h
 effect_kept x s w (AluReg op rd rs1 rs2) b h = goes_kept x s rd (alu op (reg s rs1) (reg s rs2)) (alu_fits op _ _ (h.words rs1) (h.words rs2)) h
 effect_kept x s w (Fence word) b h = onward_kept x s s h h
-effect_kept x s w Ecall b h = call_kept x s _ b (reply_kept s.memory (length x - s.place) (reg s 17) (reg s 10) (reg s 11) (reg s 12) (h.words 12)) h
+effect_kept x s w Ecall b h = call_kept x s _ b (reply_kept s.memory s.heap (length x - s.place) (reg s 17) (reg s 10) (reg s 11) (reg s 12) h.heap (h.words 10) (h.words 12)) h
 effect_kept x s w Ebreak b h = refl
 
 executed_kept : (x : List ℕ) (s : State) (w : ℕ) (o : Option Instr) → Bytes x → IsState x s → Keeps (IsState x) (executed x s w o).next

@@ -241,3 +241,53 @@ pub const LOAD_ACROSS_THE_STACK: [u32; 4] = [0x8000_02b7, 0xfe22_8fa3, 0xfff2_93
 
 /// `jal x1` to an address that is no multiple of 4.
 pub const JUMP_BETWEEN_WORDS: [u32; 3] = [0x0090_0093, 0x0060_00ef, 0x0010_0073];
+
+/// Exits with 200.
+pub const ABORT: [u32; 3] = [0x0c80_0513, 0x05d0_0893, 0x0000_0073];
+
+/// Asks for the break, and stores there.
+pub const NO_HEAP_YET: [u32; 5] = [
+    0x0000_0513,
+    0x0d60_0893,
+    0x0000_0073,
+    0x0005_0023,
+    0x0010_0073,
+];
+
+/// Asks for sixteen bytes of heap, and stores into the last.
+pub const HEAP_OF_SIXTEEN: [u32; 7] = [
+    0x0000_0513,
+    0x0d60_0893,
+    0x0000_0073,
+    0x0105_0513,
+    0x0000_0073,
+    0xfe05_0fa3,
+    0x0010_0073,
+];
+
+/// Stores 214 into the last of sixteen bytes of heap, gives them back, asks for them again, and exits with that byte.
+pub const BREAK_BACK_AND_FORTH: [u32; 12] = [
+    0x0d60_0893,
+    0x0001_1537,
+    0x0105_0513,
+    0x0000_0073,
+    0xff15_0fa3,
+    0xff05_0513,
+    0x0000_0073,
+    0x0105_0513,
+    0x0000_0073,
+    0xfff5_4503,
+    0x05d0_0893,
+    0x0000_0073,
+];
+
+/// Asks for all of the heap and stores into its last byte, then asks for one more, and stores past the break.
+pub const BREAK_AT_THE_END: [u32; 7] = [
+    0x0d60_0893,
+    0x0101_1537,
+    0x0000_0073,
+    0xfe05_0fa3,
+    0x0015_0513,
+    0x0000_0073,
+    0x0005_0023,
+];

@@ -1,5 +1,5 @@
 use crate::programs::{
-    ACCESSES, BRANCHES, JUMP_BETWEEN_WORDS, JUMPS, LOAD_ACROSS_THE_STACK, READ_IN_PARTS,
+    ABORT, ACCESSES, BRANCHES, BREAK_AT_THE_END, BREAK_BACK_AND_FORTH, HEAP_OF_SIXTEEN, JUMP_BETWEEN_WORDS, NO_HEAP_YET, JUMPS, LOAD_ACROSS_THE_STACK, READ_IN_PARTS,
     READ_OTHER_DESCRIPTOR, RUN_WHAT_IT_STORED, STORE_ACROSS_THE_STACK, UNKNOWN_CALL, WRAP_AROUND,
     WRITE_PAST_MEMORY, WRITE_X0,
 };
@@ -100,7 +100,7 @@ fn answers_calls(rt: HostRuntime) -> Result<(), Fail> {
         &WRITE_PAST_MEMORY,
         &[],
         7,
-        End::Exit(0xffff_fff2),
+        trap(TrapKind::Abort, 0x1_0018, 0xffff_fff2),
     )?;
     expect(
         &rt,
@@ -108,9 +108,39 @@ fn answers_calls(rt: HostRuntime) -> Result<(), Fail> {
         &READ_OTHER_DESCRIPTOR,
         &[7],
         5,
-        End::Exit(0xffff_fff7),
+        trap(TrapKind::Abort, 0x1_0010, 0xffff_fff7),
     )?;
-    expect(&rt, alloc, &UNKNOWN_CALL, &[], 4, End::Exit(0xffff_ffda))
+    let end = trap(TrapKind::Abort, 0x1_000c, 0xffff_ffda);
+    expect(&rt, alloc, &UNKNOWN_CALL, &[], 4, end)
+}
+
+#[test]
+fn aborts(rt: HostRuntime) -> Result<(), Fail> {
+    let end = trap(TrapKind::Abort, 0x1_0008, 200);
+    expect(&rt, rt.alloc(), &ABORT, &[], 3, end)
+}
+
+#[test]
+fn starts_without_a_heap_byte(rt: HostRuntime) -> Result<(), Fail> {
+    let end = trap(TrapKind::StoreFault, 0x1_000c, 0x1_1000);
+    expect(&rt, rt.alloc(), &NO_HEAP_YET, &[], 4, end)
+}
+
+#[test]
+fn gets_a_heap(rt: HostRuntime) -> Result<(), Fail> {
+    let end = trap(TrapKind::Breakpoint, 0x1_0018, 0);
+    expect(&rt, rt.alloc(), &HEAP_OF_SIXTEEN, &[], 7, end)
+}
+
+#[test]
+fn heap_bytes_come_back_as_zeros(rt: HostRuntime) -> Result<(), Fail> {
+    expect(&rt, rt.alloc(), &BREAK_BACK_AND_FORTH, &[], 12, End::Exit(0))
+}
+
+#[test]
+fn heap_ends_after_sixteen_mebibytes(rt: HostRuntime) -> Result<(), Fail> {
+    let end = trap(TrapKind::StoreFault, 0x1_0018, 0x101_1000);
+    expect(&rt, rt.alloc(), &BREAK_AT_THE_END, &[], 7, end)
 }
 
 #[test]
@@ -121,7 +151,7 @@ fn reads_in_parts(rt: HostRuntime) -> Result<(), Fail> {
         &READ_IN_PARTS,
         &[1, 2, 3, 4, 5, 6],
         27,
-        End::Exit(0x0303_0305),
+        trap(TrapKind::Abort, 0x1_006c, 0x0303_0305),
     )
 }
 

@@ -1,3 +1,4 @@
 pub mod Ranges
 pub mod Writes
 pub mod Starts
+pub mod Heaps

@@ -101,7 +101,7 @@ beyond stack ss a is loaded far =
 -- ---- with the stack itself
 
 stack_of : (n : ℕ) → Part
-stack_of n = record { base = 0x7ff00000; rights = 6; bytes = replicate n 0 }
+stack_of n = record { base = 0x7ff00000; rights = 6; bytes = replicate n 0; room = 0 }
 
 stack_is : (n : ℕ) → n ≡ 0x100000 → cells_from 0x7ff00000 6 (replicate n 0) ≡ stack_cells → IsStack (stack_of n)
 unfolding stack_of

@@ -6,6 +6,8 @@ ghost use Rattle.std.specs.Prelude.{◌≡◌, ℕ, ◌+◌, ◌%◌, ◌<◌, �
 ghost use Rattle.std.specs.FinMap.{get};
 ghost use Rattle.elf32.specs.declared.segments.Segment.{Segment};
 ghost use Rattle.memory_map.specs.Cells.{Map, all_can, first_without, byte_at, placed, start_map};
+ghost use Rattle.memory_map.specs.declared.heap.Heap.{Heap};
+ghost use Rattle.memory_map.specs.Heaps.{heap_size, start_heap};
 ghost use Rattle.memory_laws.specs.Ranges.{EachCan, IsFirstWithout, IsOutside};
 ghost use Rattle.memory_laws.specs.Writes.{rights_of_cell};
 ghost use Rattle.memory_laws.specs.Starts.{AreLoaded, IsIn, IsOnStack, segment_cell, stack_cell};
@@ -71,4 +73,14 @@ pub fn nothing_else_at_start()
         ¬ (IsOnStack address) → get (start_map segments) address ≡ None }
     ensures beyond { (segments : List Segment) (address : ℕ) → AreLoaded segments → 2 ^ 32 ≤ address →
         get (start_map segments) address ≡ None }
+{}
+
+/// At the start a heap has no byte, and no address where it may have one has a cell. All are below 2^32.
+pub fn heap_at_start()
+    ensures empty { (segments : List Segment) (heap : Heap) → start_heap segments ≡ Some heap → heap.brk ≡ heap.start }
+    ensures apart { (segments : List Segment) (heap : Heap) (address : ℕ) → AreLoaded segments →
+        start_heap segments ≡ Some heap → heap.start ≤ address → address < heap.start + heap_size →
+        get (start_map segments) address ≡ None }
+    ensures below { (segments : List Segment) (heap : Heap) → start_heap segments ≡ Some heap →
+        heap.start + heap_size < 2 ^ 32 }
 {}

@@ -6,3 +6,5 @@ pub mod Runs
 pub mod Placed
 pub mod Writes
 pub mod Starts
+pub mod Heaps
+pub mod HeapStarts

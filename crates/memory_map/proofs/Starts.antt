@@ -11,13 +11,13 @@ use Rattle.memory_map.specs.Layout.{end_of, part_of, IsLaidOut}
 rejoined : (a b : ℕ) → a ≤ b → a + (b - a) ≡ b
 rejoined a b h = omega arith
 
-no_segment : Segment
+pub no_segment : Segment
 no_segment = record { base = 0; size = 0; rights = 0; bytes = [] }
 
 -- a part that ends where its segment does
-record EndsWith (p : Part) (s : Segment) : Type 0 where
-  base : p.base ≡ s.base
-  end : end_of p ≡ s.base + s.size
+pub record EndsWith (p : Part) (s : Segment) : Type 0 where
+  pub base : p.base ≡ s.base
+  pub end : end_of p ≡ s.base + s.size
 
 pub filled_size : (s : Segment) → length s.bytes ≤ s.size → length (filled s) ≡ s.size
 filled_size s h = length-append s.bytes _ ∙ ap (λ n. length s.bytes + n) (length-replicate (s.size - length s.bytes) 0) ∙ rejoined (length s.bytes) s.size h
@@ -26,7 +26,7 @@ ends_with : (s : Segment) → length s.bytes ≤ s.size → EndsWith (part_of s)
 ends_with s h = record { base = refl; end = ap (λ n. s.base + n) (filled_size s h) }
 
 -- the part at a place is that of the segment there
-at_place : (ss : List Segment) (k : ℕ) (d : Part) → AreSized ss → k < length ss → EndsWith (get_or (map part_of ss) k d) (get_or ss k no_segment)
+pub at_place : (ss : List Segment) (k : ℕ) (d : Part) → AreSized ss → k < length ss → EndsWith (get_or (map part_of ss) k d) (get_or ss k no_segment)
 at_place ss k d each l = subst (λ (p : Part). EndsWith p (get_or ss k no_segment)) (sym (get_or-map part_of ss k no_segment d l)) (ends_with (get_or ss k no_segment) (each k no_segment l).held)
 
 apart : (p q : Part) (s t : Segment) → EndsWith p s → EndsWith q t → s.base + s.size ≤ t.base → end_of p ≤ q.base

@@ -1,10 +1,12 @@
 -- What a write by one look-up answers and leaves.
-use Rattle.std.proofs.Common.{◌≡◌, ℕ, ◌+◌, ◌-◌, ◌<◌, ◌≤◌, ◌^◌, List, ◌∷◌, length, get_or, set, Bool, true, false, cond, nat_le, ◌&&◌, refl, sym, ap, ◌∙◌, subst, arith, All}
+use Rattle.std.proofs.Common.{◌≡◌, Option, ℕ, ◌+◌, ◌-◌, ◌<◌, ◌≤◌, ◌^◌, List, ◌∷◌, length, get_or, set, Bool, true, false, cond, nat_le, ◌&&◌, refl, sym, ap, ◌∙◌, subst, arith, All}
 use Rattle.std.proofs.lemmas.Bool.{and_parts, leb-true, OnTrue_at, OnFalse_at, OnTrue_from}
 use Rattle.std.proofs.lemmas.List.{set-get_or}
 use Rattle.std.specs.Bool.{OnTrue, OnFalse}
 use Rattle.std.specs.FinMap.{get}
 use Rattle.memory_map.specs.Part.{Part}
+use Rattle.memory_map.specs.declared.heap.Heap.{Heap}
+use Rattle.memory_map.specs.Heaps.{Space}
 use Rattle.memory_map.specs.Cells.{Map, can, write, placed}
 use Rattle.memory_map.specs.Layout.{map_of, holds, allows, first_cell, end_of, overwritten, CanFrom, Overwrites}
 use Rattle.memory_map.proofs.Places.{Ascending, held}
@@ -81,3 +83,8 @@ can_is r old new m a bs e w = OnTrue_from r (CanFrom write m a (length bs)) (λ 
 
 pub one_is : (r : Bool) (old new : List Part) (m : Map) (a : ℕ) (bs : List ℕ) → map_of old ≡ m → IsWrite r old new a bs → length bs ≡ 1 → r ≡ can write (get m a)
 one_is r old new m a bs e w l = w.one l ∙ ap (can write) (sym (get_map old a) ∙ ap (λ n. get n a) e)
+
+-- a write leaves the heap as it is
+pub space_after : (r : Bool) (m p : Map) (h : Option Heap) (s : Space) → h ≡ s.heap → m ≡ cond r p s.map → (let x : Space = record { map = m; heap = h } in x) ≡ cond r (record { map = p; heap = s.heap }) s
+space_after true m p h s e f = (λ i. record { map = f i; heap = e i })
+space_after false m p h s e f = (λ i. record { map = f i; heap = e i })

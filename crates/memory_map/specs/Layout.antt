@@ -1,11 +1,13 @@
 -- The parts that memory is kept in, and the map that they stand for.
-use Rattle.std.specs.Prelude.{◌≡◌, ℕ, ◌+◌, ◌-◌, ◌<◌, ◌≤◌, ◌^◌, List, [], ◌∷◌, ◌++◌, Option, Some, None, length, if◌then◌else◌, slice_index, slice_index_or, Bool, true, false, ◌&&◌, nat_le, nat_lt, not, ◌==◌, bit_and, take, drop}
+use Rattle.std.specs.Prelude.{◌≡◌, ℕ, ◌+◌, ◌-◌, ◌<◌, ◌≤◌, ◌^◌, ◌⊎◌, replicate, List, [], ◌∷◌, ◌++◌, Option, Some, None, length, if◌then◌else◌, slice_index, slice_index_or, Bool, true, false, ◌&&◌, nat_le, nat_lt, not, ◌==◌, bit_and, take, drop}
 use Rattle.std.specs.FinMap.{from_entries, get}
 use Rattle.std.specs.List.{find, All, AllPairs}
 use Rattle.std.specs.Option.{option_map}
 use Rattle.elf32.specs.declared.segments.Segment.{Segment}
 use Rattle.memory_map.specs.Part.{Part}
-use Rattle.memory_map.specs.Cells.{Map, Cell, can, write, cells_from, filled, byte_at}
+use Rattle.memory_map.specs.Cells.{Map, Cell, can, read, write, cells_from, filled, byte_at}
+use Rattle.memory_map.specs.Heaps.{heap_size}
+use Rattle.memory_map.specs.declared.heap.Heap.{Heap}
 
 -- the cells of all parts
 unfoldable pub entries_of : List Part → List (ℕ × Cell)
@@ -42,7 +44,7 @@ is_among address len q = nat_le address q && nat_lt (q - address) len
 
 -- a part with bytes from an address up
 abbrev pub overwritten : Part → ℕ → List ℕ → Part
-overwritten p address bytes = record { base = p.base; rights = p.rights; bytes = take (address - p.base) p.bytes ++ (bytes ++ drop (address - p.base + length bytes) p.bytes) }
+overwritten p address bytes = record { base = p.base; rights = p.rights; bytes = take (address - p.base) p.bytes ++ (bytes ++ drop (address - p.base + length bytes) p.bytes); room = p.room }
 
 -- the parts stand in order, apart from each other and from the stack, and below 2 ^ 32
 pub record IsLaidOut (stack : Part) (parts : List Part) : Type 0 where
@@ -51,9 +53,38 @@ pub record IsLaidOut (stack : Part) (parts : List Part) : Type 0 where
   pub within : All (λ p. end_of p ≤ 2 ^ 32) parts
   pub stack_within : end_of stack ≤ 2 ^ 32
 
+-- the part of a heap
+pub record IsHeapPart (heap : Heap) (p : Part) : Type 0 where
+  pub base : p.base ≡ heap.start
+  pub end : end_of p ≡ heap.brk
+  pub rights : p.rights ≡ read + write
+  pub room : heap_size ≤ p.room
+
+-- the last part is that of the heap, which has room off the stack and below 2 ^ 32
+pub record IsHeap (stack : Part) (parts : List Part) (heap : Heap) : Type 0 where
+  pub some : 0 < length parts
+  pub last : (d : Part) → IsHeapPart heap (slice_index_or parts (length parts - 1) d)
+  pub most : heap.brk ≤ heap.start + heap_size
+  pub below : heap.start + heap_size < 2 ^ 32
+  pub off_stack : (heap.start + heap_size ≤ stack.base) ⊎ (end_of stack ≤ heap.start)
+
+-- the last part is that of the heap, where there is one
+abbrev pub HasHeap : Part → List Part → Option Heap → Type 0
+HasHeap stack parts None = Unit {0}
+HasHeap stack parts (Some heap) = IsHeap stack parts heap
+
+-- a part of another size: cut off, or filled up with zeros
+abbrev pub resized : Part → ℕ → Part
+resized p size = record { base = p.base; rights = p.rights; bytes = take size p.bytes ++ replicate (size - length p.bytes) 0; room = p.room }
+
+-- the part of a heap at the start
+abbrev pub heap_parts : Option Heap → List Part
+heap_parts None = []
+heap_parts (Some heap) = record { base = heap.start; rights = read + write; bytes = []; room = heap_size } ∷ []
+
 -- the part of a segment
 abbrev pub part_of : Segment → Part
-part_of s = record { base = s.base; rights = s.rights; bytes = filled s }
+part_of s = record { base = s.base; rights = s.rights; bytes = filled s; room = 0 }
 
 -- a part that holds an address and all whose cells are what `cells` finds
 pub record IsPartAt (cells : ℕ → Option Cell) (address : ℕ) (p : Part) : Type 0 where

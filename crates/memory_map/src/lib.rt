@@ -6,10 +6,12 @@
 //! the segments of a program as regions, so that an access within one region takes one look-up.
 #![tactic(auto)]
 
+mod heap;
 mod memory;
 mod parts;
 mod region;
 #[cfg(test)]
 mod tests;
 
+pub use heap::Heap;
 pub use memory::Memory;

@@ -1,12 +1,14 @@
 //! The memory of a machine.
 
-ghost use Rattle.std.specs.Prelude.{◌≡◌, ℕ, ◌+◌, ◌<◌, ◌≤◌, ◌^◌, Some, None, IfSome, IfNone, IfOk, OnOk, OnErr, if◌then◌else◌, length, map, replicate};
+ghost use Rattle.std.specs.Prelude.{◌≡◌, ℕ, ◌+◌, ◌<◌, ◌≤◌, ◌^◌, Some, None, IfSome, IfNone, IfOk, OnOk, OnErr, if◌then◌else◌, length, map, replicate, ◌++◌};
 ghost use Rattle.std.specs.Bool.{OnTrue};
 ghost use Rattle.std.specs.FinMap as finmap;
 ghost use Rattle.elf32.specs.Segments.{AreSized};
 ghost use Rattle.memory_map.specs.Cells.{read, write, byte_at, half_at, word_at, fetched, can, all_can, first_without, ok_unless, with_byte, placed, start_map, cells_from, stack_cells};
-ghost use Rattle.memory_map.specs.Layout.{CanFrom, IsPartAt, IsRun, part_of};
+ghost use Rattle.memory_map.specs.Layout.{CanFrom, IsPartAt, IsRun, part_of, heap_parts};
+ghost use Rattle.memory_map.specs.Heaps.{break_answer, after_break, start_heap};
 
+use crate::heap::{HEAP_SIZE, Heap, start_heap};
 use crate::parts::{region_of, write_at};
 use crate::region::{EXECUTE, READ, Region, WRITE};
 use elf32::{Image, Segment};
@@ -24,37 +26,37 @@ const STACK_SIZE: usize = 0x0010_0000;
 #[derive(Drop)]
 pub struct Memory {
     stack: Region,
-    segments: Vec<Region>,
+    /// The segments in ascending order, and past them the heap, where there is one.
+    regions: Vec<Region>,
+    heap: Option<Heap>,
 }
 
 impl Model for Memory {
     ghost use Rattle.std.specs.Prelude.{◌∷◌};
-    ghost use Rattle.std.specs.FinMap as finmap;
-    ghost use Rattle.std.specs.Coded.{coded_ℕ};
-    ghost use Rattle.memory_map.specs.Cells.{Map, cell_code};
-    ghost use Rattle.memory_map.specs.Layout.{map_of, IsLaidOut};
+    ghost use Rattle.memory_map.specs.Heaps.{Space, space_code};
+    ghost use Rattle.memory_map.specs.Layout.{map_of, IsLaidOut, HasHeap};
 
-    ghost Value = { Map };
+    ghost Value = { Space };
 
-    ghost coded = { finmap.code coded_ℕ cell_code };
+    ghost coded = { space_code };
 
-    ghost view = { λ m. map_of (m.stack ∷ m.segments.items) };
+    ghost view = { λ m. record { map = map_of (m.stack ∷ m.regions.items); heap = m.heap } };
 
-    ghost invariant = { λ m. IsLaidOut m.stack m.segments.items };
+    ghost invariant = { λ m. IsLaidOut m.stack m.regions.items × HasHeap m.stack m.regions.items m.heap };
 }
 
 impl Memory {
     /// The region that holds an address.
     fn region(&self, address: u32) -> Option<&Region>
-        ensures some { IfSome result (λ r. IsPartAt (finmap.get self.now) address r.now) }
-        ensures none { IfNone result (finmap.get self.now address ≡ None) }
+        ensures some { IfSome result (λ r. IsPartAt (finmap.get self.now.map) address r.now) }
+        ensures none { IfNone result (finmap.get self.now.map address ≡ None) }
     {
-        region_of(&self.stack, &self.segments, address)
+        region_of(&self.stack, &self.regions, address)
     }
 
     /// The bytes from an address to the end of its region, where they have a right. Else none.
     fn run(&self, right: u32, address: u32) -> &[u8]
-        ensures { IsRun right self.now address result.now }
+        ensures { IsRun right self.now.map address result.now }
     {
         match self.region(address) {
             Some(region) => {
@@ -70,7 +72,7 @@ impl Memory {
 
     /// The byte at an address, and 0 where there is none.
     fn byte(&self, address: u32) -> u8
-        ensures { result ≡ byte_at self.now address }
+        ensures { result ≡ byte_at self.now.map address }
     {
         match self.region(address) {
             Some(region) => region.byte(address),
@@ -80,7 +82,7 @@ impl Memory {
 
     /// The first of `len` addresses, modulo 2^32, that lacks a right.
     fn first_without(&self, right: u32, address: u32, len: u32) -> Option<u32>
-        ensures { result ≡ first_without right self.now address len }
+        ensures { result ≡ first_without right self.now.map address len }
     {
         let mut at = address;
         let mut left = len;
@@ -100,22 +102,22 @@ impl Memory {
 
     /// Whether each of `len` addresses from one up, modulo 2^32, may be read. There may be none.
     pub fn readable(&self, address: u32, len: u32) -> bool
-        ensures { result ≡ all_can read self.now address len }
+        ensures { result ≡ all_can read self.now.map address len }
     {
         self.first_without(READ, address, len).is_none()
     }
 
     /// Whether each of `len` addresses from one up, modulo 2^32, may be written. There may be none.
     pub fn writable(&self, address: u32, len: u32) -> bool
-        ensures { result ≡ all_can write self.now address len }
+        ensures { result ≡ all_can write self.now.map address len }
     {
         self.first_without(WRITE, address, len).is_none()
     }
 
     /// The byte at an address, where it may be read. Else nothing.
     pub fn load(&self, address: u32) -> Option<u8>
-        ensures { result ≡ (if can read (finmap.get self.now address)
-            then Some (byte_at self.now address)
+        ensures { result ≡ (if can read (finmap.get self.now.map address)
+            then Some (byte_at self.now.map address)
             else None) }
     {
         match self.run(READ, address) {
@@ -127,7 +129,7 @@ impl Memory {
     /// The little-endian half word at an address, where its two bytes may be read. Else the address of
     /// the first that may not.
     pub fn load_half(&self, address: u32) -> Result<u16, u32>
-        ensures { result ≡ ok_unless (first_without read self.now address 2) (half_at self.now address) }
+        ensures { result ≡ ok_unless (first_without read self.now.map address 2) (half_at self.now.map address) }
     {
         match self.run(READ, address) {
             [low, high, ..] => Ok(u16::from_le_bytes([*low, *high])),
@@ -137,7 +139,7 @@ impl Memory {
 
     /// The half word at an address, byte by byte.
     fn half_by_bytes(&self, address: u32) -> Result<u16, u32>
-        ensures { result ≡ ok_unless (first_without read self.now address 2) (half_at self.now address) }
+        ensures { result ≡ ok_unless (first_without read self.now.map address 2) (half_at self.now.map address) }
     {
         match self.first_without(READ, address, 2) {
             Some(fault) => Err(fault),
@@ -152,21 +154,21 @@ impl Memory {
     /// The little-endian word at an address, where its four bytes may be read. Else the address of the
     /// first that may not.
     pub fn load_word(&self, address: u32) -> Result<u32, u32>
-        ensures { result ≡ ok_unless (first_without read self.now address 4) (word_at self.now address) }
+        ensures { result ≡ ok_unless (first_without read self.now.map address 4) (word_at self.now.map address) }
     {
         self.word(READ, address)
     }
 
     /// The little-endian word at an address, where its four bytes may be executed. Else nothing.
     pub fn fetch(&self, address: u32) -> Option<u32>
-        ensures { result ≡ fetched self.now address }
+        ensures { result ≡ fetched self.now.map address }
     {
         self.word(EXECUTE, address).ok()
     }
 
     /// The word at an address, where its four bytes have a right. Else the first address that lacks it.
     fn word(&self, right: u32, address: u32) -> Result<u32, u32>
-        ensures { result ≡ ok_unless (first_without right self.now address 4) (word_at self.now address) }
+        ensures { result ≡ ok_unless (first_without right self.now.map address 4) (word_at self.now.map address) }
     {
         match self.run(right, address) {
             [a, b, c, d, ..] => Ok(u32::from_le_bytes([*a, *b, *c, *d])),
@@ -176,7 +178,7 @@ impl Memory {
 
     /// The word at an address, byte by byte.
     fn word_by_bytes(&self, right: u32, address: u32) -> Result<u32, u32>
-        ensures { result ≡ ok_unless (first_without right self.now address 4) (word_at self.now address) }
+        ensures { result ≡ ok_unless (first_without right self.now.map address 4) (word_at self.now.map address) }
     {
         match self.first_without(right, address, 4) {
             Some(fault) => Err(fault),
@@ -186,7 +188,7 @@ impl Memory {
 
     /// The word of the four bytes from an address up.
     fn bytes_as_word(&self, address: u32) -> u32
-        ensures { result ≡ word_at self.now address }
+        ensures { result ≡ word_at self.now.map address }
     {
         let second = address.wrapping_add(1);
         let third = second.wrapping_add(1);
@@ -202,9 +204,9 @@ impl Memory {
     /// Writes a byte at an address, where it may be written, and answers whether it may. Else nothing
     /// changes.
     pub fn store(&mut self, address: u32, byte: u8) -> bool
-        ensures stored { result ≡ can write (finmap.get self.old address) }
+        ensures stored { result ≡ can write (finmap.get self.old.map address) }
         ensures after { self.new ≡ (if result
-            then with_byte self.old address byte (finmap.get self.old address)
+            then record self.old { map = with_byte self.old.map address byte (finmap.get self.old.map address) }
             else self.old) }
     {
         self.write_within(address, &[byte])
@@ -214,8 +216,8 @@ impl Memory {
     /// changes, and the error is the first address that may not.
     pub fn store_bytes(&mut self, address: u32, bytes: &[u8]) -> Result<(), u32>
         requires { length bytes.now < 2 ^ 32 }
-        ensures answer { result ≡ ok_unless (first_without write self.old address (length bytes.now)) tt }
-        ensures stored { OnOk result (self.new ≡ placed self.old address bytes.now) }
+        ensures answer { result ≡ ok_unless (first_without write self.old.map address (length bytes.now)) tt }
+        ensures stored { OnOk result (self.new ≡ record self.old { map = placed self.old.map address bytes.now }) }
         ensures refused { OnErr result (self.new ≡ self.old) }
     {
         if self.write_within(address, bytes) {
@@ -233,22 +235,22 @@ impl Memory {
     /// Writes bytes from an address up, where one region holds them all and they may be written. Else
     /// nothing changes.
     fn write_within(&mut self, address: u32, bytes: &[u8]) -> bool
-        ensures written { OnTrue result (CanFrom write self.old address (length bytes.now)) }
+        ensures written { OnTrue result (CanFrom write self.old.map address (length bytes.now)) }
         ensures within { OnTrue result (address + length bytes.now ≤ 2 ^ 32) }
-        ensures one { length bytes.now ≡ 1 → result ≡ can write (finmap.get self.old address) }
-        ensures after { self.new ≡ (if result then placed self.old address bytes.now else self.old) }
+        ensures one { length bytes.now ≡ 1 → result ≡ can write (finmap.get self.old.map address) }
+        ensures after { self.new ≡ (if result then record self.old { map = placed self.old.map address bytes.now } else self.old) }
     {
         if self.stack.holds(address) {
             self.stack.write(address, bytes)
         } else {
-            write_at(&mut self.segments, address, bytes)
+            write_at(&mut self.regions, address, bytes)
         }
     }
 
     /// Writes bytes at the addresses from one up, modulo 2^32, all of which may be written.
     fn write_across(&mut self, address: u32, bytes: &[u8])
-        requires { first_without write self.old address (length bytes.now) ≡ None }
-        ensures { self.new ≡ placed self.old address bytes.now }
+        requires { first_without write self.old.map address (length bytes.now) ≡ None }
+        ensures { self.new ≡ record self.old { map = placed self.old.map address bytes.now } }
     {
         let mut at = address;
         for byte in bytes {
@@ -257,15 +259,49 @@ impl Memory {
         }
     }
 
-    /// The memory of a machine at the start of a program: the bytes of each segment, zeros after them up
-    /// to its size, and the stack, whose 1,048,576 zeros from 7ff00000 on may be read and written. The
-    /// one error is want of memory.
-    pub fn start(alloc: Global, image: &Image) -> Result<Memory, NoMemory>
-        ensures { IfOk result (λ m. m ≡ start_map image.now.segments) }
+    /// The heap, where the program has one.
+    pub fn heap(&self) -> Option<Heap>
+        ensures { result ≡ self.now.heap }
     {
-        let segments = regions_for(alloc, image.segments.as_slice())?;
+        self.heap
+    }
+
+    /// The call brk: asks for the break to be at an address, and answers where it is then. None where the
+    /// program has no heap.
+    pub fn brk(&mut self, a: u32) -> Option<u32>
+        ensures answer { result ≡ break_answer self.old.heap a }
+        ensures after { self.new ≡ after_break self.old.map self.old.heap a }
+    {
+        let heap = self.heap?;
+        if !heap.may_break(a) {
+            return Some(heap.brk);
+        }
+        let last = self.regions.len() - 1;
+        self.regions[last].resize((a - heap.start) as usize);
+        self.heap = Some(Heap {
+            start: heap.start,
+            brk: a,
+        });
+        Some(a)
+    }
+
+    /// The memory of a machine at the start of a program: the bytes of each segment, zeros after them up
+    /// to its size, the stack, whose 1,048,576 zeros from 7ff00000 on may be read and written, and a heap
+    /// without a byte, where the program has one. Memory for all the heap's bytes is taken here. The one
+    /// error is want of memory.
+    pub fn start(alloc: Global, image: &Image) -> Result<Memory, AllocError>
+        ensures map { IfOk result (λ m. m.map ≡ start_map image.now.segments) }
+        ensures heap { IfOk result (λ m. m.heap ≡ start_heap image.now.segments) }
+    {
+        let segments = image.segments.as_slice();
+        let heap = start_heap(segments);
+        let regions = regions_for(alloc, segments, heap)?;
         let stack = new_stack(alloc)?;
-        Ok(Memory { stack, segments })
+        Ok(Memory {
+            stack,
+            regions,
+            heap,
+        })
     }
 }
 
@@ -297,14 +333,25 @@ fn region_for(alloc: Global, segment: &Segment) -> Result<Region, NoMemory>
     Ok(Region::new(segment.base, segment.rights, bytes))
 }
 
-/// The regions of segments, in the same order.
-fn regions_for(alloc: Global, segments: &[Segment]) -> Result<Vec<Region>, NoMemory>
+/// The regions of segments, in the same order, and that of the heap.
+fn regions_for(
+    alloc: Global,
+    segments: &[Segment],
+    heap: Option<Heap>,
+) -> Result<Vec<Region>, AllocError>
     requires { AreSized segments.now }
-    ensures { IfOk result (λ v. v.items ≡ map part_of segments.now) }
+    ensures { IfOk result (λ v. v.items ≡ map part_of segments.now ++ heap_parts heap) }
 {
     let mut regions = Vec::new(alloc);
     for segment in segments {
         regions.push(region_for(alloc, segment)?)?;
+    }
+    match heap {
+        Some(heap) => {
+            let room = HEAP_SIZE as usize;
+            regions.push(Region::with_room(alloc, heap.start, READ + WRITE, room)?)?;
+        }
+        None => {}
     }
     Ok(regions)
 }

@@ -1,11 +1,12 @@
 //! Regions in the order of their bases.
 
-ghost use Rattle.std.specs.Prelude.{◌≡◌, ◌+◌, ◌≤◌, ◌^◌, ◌∷◌, Some, None, IfSome, IfNone, length};
+ghost use Rattle.std.specs.Prelude.{◌≡◌, Option, ◌+◌, ◌≤◌, ◌^◌, ◌∷◌, Some, None, IfSome, IfNone, length};
 ghost use Rattle.std.specs.Bool.{OnTrue, OnFalse};
 ghost use Rattle.std.specs.List.{All, AllPairs};
 ghost use Rattle.memory_map.specs.Part.{Part};
+ghost use Rattle.memory_map.specs.declared.heap.Heap.{Heap};
 ghost use Rattle.memory_map.specs.Cells.{can, write};
-ghost use Rattle.memory_map.specs.Layout.{IsHeldAt, IsPartAt, IsLaidOut, Overwrites, first_cell, end_of};
+ghost use Rattle.memory_map.specs.Layout.{IsHeldAt, IsPartAt, IsLaidOut, HasHeap, Overwrites, first_cell, end_of};
 
 use crate::region::Region;
 
@@ -49,6 +50,7 @@ pub fn write_at(regions: &mut [Region], address: u32, bytes: &[u8]) -> bool
     ensures refused { OnFalse result (regions.new ≡ regions.old) }
     ensures one { length bytes.now ≡ 1 → result ≡ can write (first_cell regions.old address) }
     ensures laid_out { (stack : Part) → IsLaidOut stack regions.old → IsLaidOut stack regions.new }
+    ensures heap { (stack : Part) (heap : Option Heap) → HasHeap stack regions.old heap → HasHeap stack regions.new heap }
 {
     match place_of(regions, address) {
         Some(place) => regions[place].write(address, bytes),

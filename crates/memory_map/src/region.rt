@@ -1,9 +1,11 @@
 //! Regions of memory.
 
-ghost use Rattle.std.specs.Prelude.{◌≡◌, ◌-◌, ◌+◌, IsTrue, drop, slice_index, length, ◌&&◌, nat_le, if◌then◌else◌};
+ghost use Rattle.std.specs.Prelude.{◌≡◌, ◌≤◌, ◌-◌, ◌+◌, IsTrue, IfOk, [], drop, slice_index, length, ◌&&◌, nat_le, if◌then◌else◌};
 ghost use Rattle.memory_map.specs.Cells.{write};
-ghost use Rattle.memory_map.specs.Layout.{holds, allows, overwritten, end_of};
+ghost use Rattle.std.specs.Vec.{vec_capacity};
+ghost use Rattle.memory_map.specs.Layout.{holds, allows, overwritten, resized, end_of};
 
+use std::alloc::{AllocError, Global};
 use std::marker::Model;
 
 /// The right to execute, PF_X of the System V gABI's "Program Header".
@@ -21,28 +23,61 @@ pub struct Region {
     base: u32,
     rights: u32,
     bytes: Vec<u8>,
+    /// How many bytes there is memory for.
+    room: usize,
 }
 
 impl Model for Region {
+    ghost use Rattle.std.specs.Prelude.{◌≤◌};
+    ghost use Rattle.std.specs.Vec.{vec_capacity};
     ghost use Rattle.memory_map.specs.Part.{Part, part_code};
 
     ghost Value = { Part };
 
     ghost coded = { part_code };
 
-    ghost view = { λ r. record { base = r.base; rights = r.rights; bytes = r.bytes.items } };
+    ghost view = { λ r. record { base = r.base; rights = r.rights; bytes = r.bytes.items; room = r.room } };
+
+    ghost invariant = { λ r. r.room ≤ vec_capacity r.bytes };
 }
 
 impl Region {
     /// A region with these bytes from an address up.
     pub fn new(base: u32, rights: u32, bytes: Vec<u8>) -> Self
-        ensures { result ≡ record { base = base; rights = rights; bytes = bytes.items } }
+        ensures { result ≡ record { base = base; rights = rights; bytes = bytes.items; room = 0 } }
     {
         Region {
             base,
             rights,
             bytes,
+            room: 0,
         }
+    }
+
+    /// A region without bytes from an address up, with memory for so many.
+    pub fn with_room(
+        alloc: Global,
+        base: u32,
+        rights: u32,
+        room: usize,
+    ) -> Result<Self, AllocError>
+        ensures { IfOk result (λ r. r ≡ record { base = base; rights = rights; bytes = []; room = room }) }
+    {
+        let bytes = Vec::with_capacity(alloc, room)?;
+        Ok(Region {
+            base,
+            rights,
+            bytes,
+            room,
+        })
+    }
+
+    /// Cuts the bytes off after the first so many, or fills them up with zeros to so many.
+    pub fn resize(&mut self, size: usize)
+        requires { size ≤ self.old.room }
+        ensures { self.new ≡ resized self.old size }
+    {
+        self.bytes.resize(size, 0).unwrap();
     }
 
     /// The first address.

@@ -10,9 +10,13 @@ use Rattle.std.proofs.lemmas.Grind.{common_steps}
 use Rattle.term_model.specs.Tree.{Tree, Const}
 use Rattle.term_model.specs.Value.{val}
 use Rattle.memory_map.specs.Cells.{Map, Cell, can, read, write, first_without, byte_of_cell, byte_at, next_address, with_byte, placed}
+use Rattle.memory_map.specs.declared.heap.Heap.{Heap}
+use Rattle.memory_map.specs.Heaps.{heap_cell, with_break}
+use Rattle.memory_map.specs.Layout.{is_among}
+use Rattle.memory_map.proofs.Heaps.{get-with_break}
 use Rattle.rv_machine.specs.State.{State, reg, written}
-use Rattle.rv_machine.specs.Calls.{Answers, Moves, Exits, if_none, reply_to}
-use Rattle.replay_law.specs.Terms.{Terms, reg_term, written_term, with_tree, put_trees}
+use Rattle.rv_machine.specs.Calls.{Answers, Moves, Exits, if_none, break_reply, reply_to}
+use Rattle.replay_law.specs.Terms.{Terms, reg_term, written_term, with_tree, put_trees, zero_between}
 use Rattle.replay_law.proofs.Agreement.{cell_with, Agrees}
 
 -- ---- rights
@@ -26,10 +30,10 @@ can_with : (right byte : ℕ) (o : Option Cell) → can right (cell_with byte o)
 can_with right byte None = refl
 can_with right byte (Some cell) = refl
 
--- a state that agrees with terms has the image's rights
-pub same_rights : {image : Map} {terms : Terms} {y : List ℕ} {s : State} → Agrees image terms y s → HaveSameRights s.memory image
-same_rights {image} {terms} {y} {s} ag = record {
-  here = λ right a. ap (can right) (ag.memory a) ∙ can_with right (val (terms.bytes a) y) (get image a);
+-- a state that agrees with terms has the rights of their cells
+pub same_rights : {terms : Terms} {y : List ℕ} {s : State} → Agrees terms y s → HaveSameRights s.memory terms.cells
+same_rights {terms} {y} {s} ag = record {
+  here = λ right a. ap (can right) (ag.memory a) ∙ can_with right (val (terms.bytes a) y) (get terms.cells a);
 }
 
 -- two memories with a third's rights have the same
@@ -44,17 +48,18 @@ first_same m k h right (suc n) a =
     (λ i. if h.here right a i then first_same m k h right n (next_address a) i else Some a)
 
 -- a reply by such faults
-reply_to_same : (m k : Map) → HaveSameRights m k → (left a7 a0 a1 a2 : ℕ) → reply_to m left a7 a0 a1 a2 ≡ reply_to k left a7 a0 a1 a2
+reply_to_same : (m k : Map) → HaveSameRights m k → (heap : Option Heap) (left a7 a0 a1 a2 : ℕ) → reply_to m heap left a7 a0 a1 a2 ≡ reply_to k heap left a7 a0 a1 a2
 unfolding reply_to
-reply_to_same m k h left a7 a0 a1 a2 =
+reply_to_same m k h heap left a7 a0 a1 a2 =
     (λ i. if a7 == 63 then (if a0 == 0 then if_none (first_same m k h write (min a2 left) a1 i) (Moves (min a2 left)) else Answers (2 ^ 32 - 9))
     else if a7 == 64 then (if (a0 == 1) || (a0 == 2) then if_none (first_same m k h read a2 a1 i) (Answers a2) else Answers (2 ^ 32 - 9))
     else if (a7 == 93) || (a7 == 94) then Exits a0
+    else if a7 == 214 then break_reply heap a0
     else Answers (2 ^ 32 - 38))
 
 -- the replies to a call are the same
-pub reply_same : {m k : Map} → HaveSameRights m k → (left a7 a0 a1 a2 : ℕ) → reply_to m left a7 a0 a1 a2 ≡ reply_to k left a7 a0 a1 a2
-reply_same {m} {k} h left a7 a0 a1 a2 = reply_to_same m k h left a7 a0 a1 a2
+pub reply_same : {m k : Map} → HaveSameRights m k → (heap : Option Heap) (left a7 a0 a1 a2 : ℕ) → reply_to m heap left a7 a0 a1 a2 ≡ reply_to k heap left a7 a0 a1 a2
+reply_same {m} {k} h heap left a7 a0 a1 a2 = reply_to_same m k h heap left a7 a0 a1 a2
 
 -- ---- addresses that may be used
 
@@ -84,15 +89,15 @@ byte_with right byte None h = absurd (false≢true h)
 byte_with right byte (Some cell) h = refl
 
 -- the byte at an address with a right is the value of its term
-pub byte_is_value : {image : Map} {terms : Terms} {y : List ℕ} {s : State} → Agrees image terms y s → (right a : ℕ) → can right (get s.memory a) ≡ true → byte_at s.memory a ≡ val (terms.bytes a) y
-byte_is_value {image} {terms} {y} {s} ag right a h =
-    ap byte_of_cell (ag.memory a) ∙ byte_with right (val (terms.bytes a) y) (get image a) (sym ((same_rights ag).here right a) ∙ h)
+pub byte_is_value : {terms : Terms} {y : List ℕ} {s : State} → Agrees terms y s → (right a : ℕ) → can right (get s.memory a) ≡ true → byte_at s.memory a ≡ val (terms.bytes a) y
+byte_is_value {terms} {y} {s} ag right a h =
+    ap byte_of_cell (ag.memory a) ∙ byte_with right (val (terms.bytes a) y) (get terms.cells a) (sym ((same_rights ag).here right a) ∙ h)
 
 -- ---- registers
 
 -- the value of a register is that of its term
-pub reg_value : {image : Map} {terms : Terms} {y : List ℕ} {s : State} → Agrees image terms y s → (r : ℕ) → reg s r ≡ val (reg_term terms r) y
-reg_value {image} {terms} {y} {s} ag r = ap (λ rs. get_or rs r 0) ag.registers ∙ get_or-map (λ t. val t y) terms.registers r (Const 0)
+pub reg_value : {terms : Terms} {y : List ℕ} {s : State} → Agrees terms y s → (r : ℕ) → reg s r ≡ val (reg_term terms r) y
+reg_value {terms} {y} {s} ag r = ap (λ rs. get_or rs r 0) ag.registers ∙ get_or-map (λ t. val t y) terms.registers r (Const 0)
 
 -- a list after a write, by the test for x0
 write_if : (b : Bool) (rd v : ℕ) (t : Tree) (y : List ℕ) (ts : List Tree) → v ≡ val t y → (if b then map (λ u. val u y) ts else set (map (λ u. val u y) ts) rd v) ≡ map (λ u. val u y) (if b then ts else set ts rd t)
@@ -100,12 +105,12 @@ write_if true rd v t y ts e = refl
 write_if false rd v t y ts e = ap (set (map (λ u. val u y) ts) rd) e ∙ sym (map-set (λ u. val u y) ts rd t)
 
 -- registers after a write are the values of the terms after it
-pub written_value : {image : Map} {terms : Terms} {y : List ℕ} {s : State} → Agrees image terms y s → (rd v : ℕ) (t : Tree) → v ≡ val t y → written rd v s.registers ≡ map (λ u. val u y) (written_term rd t terms.registers)
-written_value {image} {terms} {y} {s} ag rd v t e = ap (written rd v) ag.registers ∙ write_if (rd == 0) rd v t y terms.registers e
+pub written_value : {terms : Terms} {y : List ℕ} {s : State} → Agrees terms y s → (rd v : ℕ) (t : Tree) → v ≡ val t y → written rd v s.registers ≡ map (λ u. val u y) (written_term rd t terms.registers)
+written_value {terms} {y} {s} ag rd v t e = ap (written rd v) ag.registers ∙ write_if (rd == 0) rd v t y terms.registers e
 
 -- ---- memory
 
--- memory that is the image with the values of terms
+-- memory that is another with the values of terms
 pub record IsValued (image : Map) (bytes : ℕ → Tree) (y : List ℕ) (m : Map) : Type 0 where
   pub at : (a : ℕ) → get m a ≡ cell_with (val (bytes a) y) (get image a)
 
@@ -119,7 +124,7 @@ with_other m a v q None e f = refl
 with_other m a v q (Some c) e f =
     get-insert nat_cmp_total m a (record { byte = v; rights = c.rights }) q ∙ ap (λ b. cond b (Some (record { byte = v; rights = c.rights })) (get m q)) (key_eq q a ∙ f)
 
--- a cell with another byte, in a memory with the image's rights
+-- a cell with another byte, in a memory with another's rights
 with_same : (m : Map) (a v q : ℕ) (o : Option Cell) → get m a ≡ o → (q == a) ≡ true → get (with_byte m a v o) q ≡ cell_with v o
 with_same m a v q None e f = ap (get m) (eqb-true q a f) ∙ e
 with_same m a v q (Some c) e f =
@@ -145,6 +150,23 @@ pub placed_valued : (image : Map) (bytes : ℕ → Tree) (y : List ℕ) (m : Map
 unfolding placed put_trees
 placed_valued image bytes y m a [] h = h
 placed_valued image bytes y m a (t ∷ ts) h = placed_valued image (with_tree bytes a t) y (with_byte m a (val t y) (get m a)) (next_address a) ts (one_valued image bytes y m a t h)
+
+-- a cell after the break has moved, by where it stands
+break_by : (u w : Bool) (t : Tree) (y : List ℕ) (o : Option Cell) → cond u None (cond w (Some heap_cell) (cell_with (val t y) o)) ≡ cell_with (val (if w || u then Const 0 else t) y) (cond u None (cond w (Some heap_cell) o))
+break_by true true t y o = refl
+break_by true false t y o = refl
+break_by false true t y o = refl
+break_by false false t y o = refl
+
+-- it stays valued when the break moves
+pub break_valued : (image : Map) (bytes : ℕ → Tree) (y : List ℕ) (m : Map) (old new : ℕ) → IsValued image bytes y m → IsValued (with_break image old new) (zero_between bytes old new) y (with_break m old new)
+break_valued image bytes y m old new h = record {
+  at = λ q.
+      get-with_break m old new q
+      ∙ ap (λ o. cond (is_among new (old - new) q) None (cond (is_among old (new - old) q) (Some heap_cell) o)) (h.at q)
+      ∙ break_by (is_among new (old - new) q) (is_among old (new - old) q) (bytes q) y (get image q)
+      ∙ ap (cell_with (val (zero_between bytes old new q) y)) (sym (get-with_break image old new q));
+}
 
 -- ---- what holds of all terms
 
@@ -174,6 +196,10 @@ written_keeps P ts rd r t p q = write_keeps P ts rd r t (rd == 0) p q
 choose : (P : Tree → Type 0) (b : Bool) (t u : Tree) → P t → P u → P (if b then t else u)
 choose P true t u p q = p
 choose P false t u p q = q
+
+-- so does memory as the break moves
+pub zero_keeps : (P : Tree → Type 0) (bytes : ℕ → Tree) (old new : ℕ) → P (Const 0) → ((q : ℕ) → P (bytes q)) → (q : ℕ) → P (zero_between bytes old new q)
+zero_keeps P bytes old new z h q = choose P (is_among old (new - old) q || is_among new (old - new) q) (Const 0) (bytes q) z (h q)
 
 -- so does memory
 pub put_keeps : (P : Tree → Type 0) (bytes : ℕ → Tree) (a : ℕ) (ts : List Tree) → ((q : ℕ) → P (bytes q)) → Each P ts → (q : ℕ) → P (put_trees bytes a ts q)

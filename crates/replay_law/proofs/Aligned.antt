@@ -8,9 +8,9 @@ use Rattle.rv_decode.specs.declared.instr.Instr.TheVariants.{Lui, Auipc, Jal, Ja
 use Rattle.rv_decode.specs.declared.instr.Width.{Width}
 use Rattle.memory_map.specs.Cells.{execute, read, write, first_without, word_at}
 use Rattle.rv_machine.specs.State.{State, Goes, reg, write_reg, at, following, bits, trap}
-use Rattle.rv_machine.specs.Calls.{Reply, Answers, Moves, Exits, reply_to}
+use Rattle.rv_machine.specs.Calls.{Reply, Answers, Moves, Breaks, Exits, reply_to}
 use Rattle.rv_machine.specs.Effects.{even, jump, taken, size_of, after_load, after_store, after_call, address_of, executed, after_fetch, step, effect}
-use Rattle.replay_law.proofs.Stepping.{OnGoes}
+use Rattle.replay_law.proofs.Stepping.{OnGoes, exit_goes}
 
 -- the program counter is a multiple of 4
 abbrev pub IsAligned : State → Type 0
@@ -48,7 +48,8 @@ store_aligned s width v a (Some fault) e = tt
 call_aligned : (x : List ℕ) (s : State) (r : Reply) → s.pc % 4 ≡ 0 → OnGoes IsAligned (after_call x s r)
 call_aligned x s (Answers v) e = following_aligned s.pc e
 call_aligned x s (Moves k) e = following_aligned s.pc e
-call_aligned x s (Exits code) e = tt
+call_aligned x s (Breaks h a) e = following_aligned s.pc e
+call_aligned x s (Exits code) e = exit_goes IsAligned s.pc code
 
 -- an instruction, or an illegal word
 row_aligned : (x : List ℕ) (s : State) (word : ℕ) (o : Option Instr) → s.pc % 4 ≡ 0 → OnGoes IsAligned (executed x s word o).next
@@ -64,7 +65,7 @@ row_aligned x s word (Some (Store width rs1 rs2 imm)) e = store_aligned s width 
 row_aligned x s word (Some (AluImm op rd rs1 imm)) e = following_aligned s.pc e
 row_aligned x s word (Some (AluReg op rd rs1 rs2)) e = following_aligned s.pc e
 row_aligned x s word (Some (Fence bits')) e = following_aligned s.pc e
-row_aligned x s word (Some Ecall) e = call_aligned x s (reply_to s.memory (length x - s.place) (reg s 17) (reg s 10) (reg s 11) (reg s 12)) e
+row_aligned x s word (Some Ecall) e = call_aligned x s (reply_to s.memory s.heap (length x - s.place) (reg s 17) (reg s 10) (reg s 11) (reg s 12)) e
 row_aligned x s word (Some Ebreak) e = tt
 
 -- a step, by its fetch

@@ -68,8 +68,8 @@ below_half : (a b : ℕ) → a < 256 → b < 256 → a + 256 * b < 65536
 below_half a b h k = omega arith
 
 -- the word at an address whose bytes have a right
-pub word_value : {image : Map} {terms : Terms} {y : List ℕ} {s : State} → Agrees image terms y s → (right a : ℕ) → first_without right s.memory a 4 ≡ None → word_at s.memory a ≡ val (terms.bytes a) y + 256 * val (terms.bytes (next_address a)) y + 65536 * val (terms.bytes (next_address (next_address a))) y + 16777216 * val (terms.bytes (next_address (next_address (next_address a)))) y
-word_value {image} {terms} {y} {s} ag right a ok =
+pub word_value : {terms : Terms} {y : List ℕ} {s : State} → Agrees terms y s → (right a : ℕ) → first_without right s.memory a 4 ≡ None → word_at s.memory a ≡ val (terms.bytes a) y + 256 * val (terms.bytes (next_address a)) y + 65536 * val (terms.bytes (next_address (next_address a))) y + 16777216 * val (terms.bytes (next_address (next_address (next_address a)))) y
+word_value {terms} {y} {s} ag right a ok =
     let p : first_without right s.memory (next_address a) 3 ≡ None = can_next right s.memory a 3 ok in
     let q : first_without right s.memory (next_address (next_address a)) 2 ≡ None = can_next right s.memory (next_address a) 2 p in
     let r : first_without right s.memory (next_address (next_address (next_address a))) 1 ≡ None = can_next right s.memory (next_address (next_address a)) 1 q in
@@ -79,23 +79,23 @@ word_value {image} {terms} {y} {s} ag right a ok =
     + 16777216 * byte_is_value ag right (next_address (next_address (next_address a))) (can_here right s.memory (next_address (next_address (next_address a))) 0 r) i)
 
 -- what a load gives has the value that the machine loads
-pub loaded_value : {made : Making} {IsMade : Tree → Type 0} → IsMaker made IsMade → {image : Map} {terms : Terms} {y : List ℕ} {s : State} → AreBytes y → Agrees image terms y s → ((a : ℕ) → IsByte IsMade (terms.bytes a)) → (width : Width) (a : ℕ) → first_without read s.memory a (size_of width) ≡ None → loaded s.memory width a ≡ val (loaded_term made terms.bytes width a) y
-loaded_value m {image} {terms} {y} {s} bs ag h widths.B a ok =
+pub loaded_value : {made : Making} {IsMade : Tree → Type 0} → IsMaker made IsMade → {terms : Terms} {y : List ℕ} {s : State} → AreBytes y → Agrees terms y s → ((a : ℕ) → IsByte IsMade (terms.bytes a)) → (width : Width) (a : ℕ) → first_without read s.memory a (size_of width) ≡ None → loaded s.memory width a ≡ val (loaded_term made terms.bytes width a) y
+loaded_value m {terms} {y} {s} bs ag h widths.B a ok =
     let e = byte_is_value ag read a (can_here read s.memory a 0 ok) in
     ap (λ b. cast_unsigned w32 (sign_extended 8 b)) e
     ∙ extended_byte _ ((h a).1 y bs)
     ∙ sym (extended_value m y bs 24 (omega arith) (terms.bytes a) (h a).0)
-loaded_value m {image} {terms} {y} {s} bs ag h widths.Bu a ok = byte_is_value ag read a (can_here read s.memory a 0 ok)
-loaded_value {made} m {image} {terms} {y} {s} bs ag h widths.H a ok =
+loaded_value m {terms} {y} {s} bs ag h widths.Bu a ok = byte_is_value ag read a (can_here read s.memory a 0 ok)
+loaded_value {made} m {terms} {y} {s} bs ag h widths.H a ok =
     let e = half_is y terms.bytes s.memory a (byte_is_value ag read a (can_here read s.memory a 1 ok)) (byte_is_value ag read _ (can_here read s.memory _ 0 (can_next read s.memory a 1 ok))) in
     ap (λ b. cast_unsigned w32 (sign_extended 16 b)) (e ∙ sym (half_value m y bs terms.bytes a (h a) (h _)))
     ∙ extended_half (val (half_term made terms.bytes a) y)
     (subst (λ (n : ℕ). n < 65536) (sym (half_value m y bs terms.bytes a (h a) (h _))) (below_half _ _ ((h a).1 y bs) ((h (next_address a)).1 y bs)))
     ∙ sym (extended_value m y bs 16 (omega arith) (half_term made terms.bytes a) (half_made m terms.bytes a (h a) (h _)))
-loaded_value m {image} {terms} {y} {s} bs ag h widths.Hu a ok =
+loaded_value m {terms} {y} {s} bs ag h widths.Hu a ok =
     half_is y terms.bytes s.memory a (byte_is_value ag read a (can_here read s.memory a 1 ok)) (byte_is_value ag read _ (can_here read s.memory _ 0 (can_next read s.memory a 1 ok)))
     ∙ sym (half_value m y bs terms.bytes a (h a) (h _))
-loaded_value {made} m {image} {terms} {y} {s} bs ag h widths.W a ok =
+loaded_value {made} m {terms} {y} {s} bs ag h widths.W a ok =
     word_value ag read a ok
     ∙ sym (word_of _ _ _ _ ((h a).1 y bs) ((h (next_address a)).1 y bs) ((h (next_address (next_address a))).1 y bs) ((h (next_address (next_address (next_address a)))).1 y bs))
     ∙ sym (m.keeps Half (half_term made terms.bytes a) (half_term made terms.bytes (next_address (next_address a))) y (half_made m terms.bytes a (h a) (h _)) (half_made m terms.bytes (next_address (next_address a)) (h _) (h _)) tt bs

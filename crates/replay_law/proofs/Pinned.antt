@@ -1,5 +1,5 @@
 -- What two runs have to have in common for one step to look the same, and what looking the same says of them.
-use Rattle.std.proofs.Common.{◌≡◌, ℕ, ◌+◌, ◌-◌, ◌%◌, ◌^◌, List, [], ◌∷◌, length, Option, Some, None, Bool, true, false, if◌then◌else◌, refl, sym, ap, ◌∙◌, arith, subst, slice_index, ◌==◌, ◌⊎◌, inl, inr}
+use Rattle.std.proofs.Common.{◌≡◌, nat_lt, ℕ, ◌+◌, ◌-◌, ◌%◌, ◌^◌, List, [], ◌∷◌, length, Option, Some, None, Bool, true, false, if◌then◌else◌, refl, sym, ap, ◌∙◌, arith, subst, slice_index, ◌==◌, ◌⊎◌, inl, inr}
 use Rattle.std.proofs.lemmas.Bool.{eq-eqb}
 use Rattle.rv_event.specs.declared.event.End.TheVariants as ends
 use Rattle.rv_event.specs.declared.event.TrapKind.{TrapKind}
@@ -11,14 +11,15 @@ use Rattle.rv_decode.specs.declared.instr.Instr.TheVariants.{Lui, Auipc, Jal, Ja
 use Rattle.rv_decode.specs.declared.instr.Width.{Width}
 use Rattle.memory_map.specs.Cells.{read, write, first_without}
 use Rattle.rv_machine.specs.State.{State, Next, Goes, Ends, Outcome, reg, write_reg, at, following, bits, trap, no_call, event_of}
-use Rattle.rv_machine.specs.Calls.{Reply, Answers, Moves, Exits, reply_to}
-use Rattle.rv_machine.specs.Effects.{even, jump, taken, size_of, after_load, after_store, after_call, address_of, effect}
+use Rattle.rv_machine.specs.Calls.{Reply, Answers, Moves, Breaks, Exits, reply_to}
+use Rattle.rv_machine.specs.Effects.{even, jump, exit, taken, size_of, after_load, after_store, after_call, address_of, effect}
 use Rattle.replay_law.proofs.Agreeing.{HaveSameRights, first_same, reply_same}
 
 -- two states, each on an input, that the events so far do not tell apart
 pub record AreAlike (x y : List ℕ) (s r : State) : Type 0 where
   pub pc : r.pc ≡ s.pc
   pub rights : HaveSameRights r.memory s.memory
+  pub heap : r.heap ≡ s.heap
   pub left : length y - r.place ≡ length x - s.place
 
 -- two steps go to one program counter, or come to one end
@@ -128,20 +129,29 @@ store_looks : (s r : State) (width : Width) (v w a c : ℕ) (o : Option ℕ) →
 store_looks s r width v w a c None e = ap following e
 store_looks s r width v w a c (Some fault) e = trap_same r.pc s.pc e traps.StoreFault fault fault refl
 
+-- two exits with one code look the same
+exit_looks : (p q : ℕ) → p ≡ q → (code : ℕ) → Looks (exit p code) (exit q code)
+exit_looks p q e code = either (nat_lt code 128)
+  where
+    either : (b : Bool) → Looks (if b then Ends (ends.Exit code) else trap p traps.Abort code) (if b then Ends (ends.Exit code) else trap q traps.Abort code)
+    either true = refl
+    either false = trap_same p q e traps.Abort code code refl
+
 -- two calls with the same reply look the same
 reply_looks : (x y : List ℕ) (s r : State) (p : Reply) → r.pc ≡ s.pc → Looks (after_call y r p) (after_call x s p)
 reply_looks x y s r (Answers v) e = ap following e
 reply_looks x y s r (Moves k) e = ap following e
-reply_looks x y s r (Exits code) e = refl
+reply_looks x y s r (Breaks h a) e = ap following e
+reply_looks x y s r (Exits code) e = exit_looks r.pc s.pc e code
 
 -- ranges at one address have the same fault
 faults_same : {x y : List ℕ} {s r : State} → AreAlike x y s r → (right n a c : ℕ) → a ≡ c → first_without right r.memory a n ≡ first_without right s.memory c n
 faults_same {x} {y} {s} {r} al right n a c e = ap (λ p. first_without right r.memory p n) e ∙ first_same r.memory s.memory al.rights right n c
 
 -- calls with the same values have the same reply
-replies_same : {x y : List ℕ} {s r : State} → AreAlike x y s r → HaveSameCall s r → reply_to r.memory (length y - r.place) (reg r 17) (reg r 10) (reg r 11) (reg r 12) ≡ reply_to s.memory (length x - s.place) (reg s 17) (reg s 10) (reg s 11) (reg s 12)
+replies_same : {x y : List ℕ} {s r : State} → AreAlike x y s r → HaveSameCall s r → reply_to r.memory r.heap (length y - r.place) (reg r 17) (reg r 10) (reg r 11) (reg r 12) ≡ reply_to s.memory s.heap (length x - s.place) (reg s 17) (reg s 10) (reg s 11) (reg s 12)
 replies_same {x} {y} {s} {r} al h =
-    (λ i. reply_to r.memory (al.left i) (h.a7 i) (h.a0 i) (h.a1 i) (h.a2 i)) ∙ reply_same al.rights (length x - s.place) (reg s 17) (reg s 10) (reg s 11) (reg s 12)
+    (λ i. reply_to r.memory (al.heap i) (al.left i) (h.a7 i) (h.a0 i) (h.a1 i) (h.a2 i)) ∙ reply_same al.rights s.heap (length x - s.place) (reg s 17) (reg s 10) (reg s 11) (reg s 12)
 
 -- the address after a multiple of 4 is one
 pub next_aligned : (pc : ℕ) → pc % 4 ≡ 0 → following pc % 4 ≡ 0
@@ -192,8 +202,8 @@ row_looks {x} {y} {s} {r} al ev word (AluReg op rd rs1 rs2) h = record { event =
 row_looks {x} {y} {s} {r} al ev word (Fence bits') h = record { event = plain_same s r al.pc word; next = ap following al.pc }
 row_looks {x} {y} {s} {r} al ev word Ecall h = record {
   event = event_same s r al.pc word 0 0 refl (reg s 17 ∷ reg s 10 ∷ reg s 11 ∷ reg s 12 ∷ []) (reg r 17 ∷ reg r 10 ∷ reg r 11 ∷ reg r 12 ∷ []) (λ i. h.a7 i ∷ h.a0 i ∷ h.a1 i ∷ h.a2 i ∷ []) kinds.Call;
-  next = subst (λ (p : Reply). Looks (after_call y r (reply_to r.memory (length y - r.place) (reg r 17) (reg r 10) (reg r 11) (reg r 12))) (after_call x s p)) (replies_same al h)
-      (reply_looks x y s r (reply_to r.memory (length y - r.place) (reg r 17) (reg r 10) (reg r 11) (reg r 12)) al.pc);
+  next = subst (λ (p : Reply). Looks (after_call y r (reply_to r.memory r.heap (length y - r.place) (reg r 17) (reg r 10) (reg r 11) (reg r 12))) (after_call x s p)) (replies_same al h)
+      (reply_looks x y s r (reply_to r.memory r.heap (length y - r.place) (reg r 17) (reg r 10) (reg r 11) (reg r 12)) al.pc);
 }
 row_looks {x} {y} {s} {r} al ev word Ebreak h = record { event = plain_same s r al.pc word; next = trap_same r.pc s.pc al.pc traps.Breakpoint 0 0 refl }
 

@@ -20,14 +20,17 @@ use Rattle.term_model.specs.Value.{val, byte_of}
 use Rattle.term_model.specs.Same.{same_tree}
 use Rattle.term_model.specs.Truth.{is_truth}
 use Rattle.memory_map.specs.Cells.{Map, next_address, first_without, read, write}
+use Rattle.elf32.specs.declared.segments.Segment.{Segment}
+use Rattle.memory_map.specs.declared.heap.Heap.{Heap}
+use Rattle.memory_map.specs.Heaps.{may_break, with_break}
 use Rattle.rv_machine.specs.State.{bits, following, start_registers}
-use Rattle.rv_machine.specs.Calls.{Reply, Answers, Moves, Exits, if_none, reply_to}
+use Rattle.rv_machine.specs.Calls.{Reply, Answers, Moves, Breaks, Exits, if_none, break_reply, reply_to}
 use Rattle.replay_law.specs.Making.{Making, IsMaker, IsConstant, IsTruthOrConstant, IsCarefulMaker}
 use Rattle.replay_law.specs.Forms.{byte_term, equal, bytes_are, difference, pin, target_bytes, target, fails, outcome, with_condition, with_conditions}
-use Rattle.replay_law.specs.Terms.{Terms, reg_term, put_reg, put_trees, input_terms, extended_term, half_term, loaded_term, stored_terms, sum_term, call_value, after_reply, after_row, after_instr, terms_after, start_terms}
+use Rattle.replay_law.specs.Terms.{Terms, reg_term, put_reg, put_trees, zero_between, input_terms, extended_term, half_term, loaded_term, stored_terms, sum_term, call_value, after_reply, after_row, after_instr, terms_after, start_terms}
 use Rattle.replay_law.specs.Follow.{fetched_byte, fetch_conditions, row_conditions, instr_conditions, conditions_by, conditions_of}
 use Rattle.replay_law.proofs.Held.{byte_made, byte_below}
-use Rattle.replay_law.proofs.Agreeing.{Each, written_keeps, put_keeps}
+use Rattle.replay_law.proofs.Agreeing.{Each, written_keeps, put_keeps, zero_keeps}
 use Rattle.replay_law.proofs.Stepping.{bits_below}
 use Rattle.replay_law.proofs.Agreement.{AreMade}
 use Rattle.term_model.specs.Places.{ReadsBelow}
@@ -203,7 +206,7 @@ put_within : {n : ℕ} {s : Terms} → ReadWithin n s → (rd : ℕ) (t : Tree) 
 put_within {n} {s} h rd t rt = record { registers = λ r. written_keeps (ReadsBelow n) s.registers rd r t rt (h.registers r); bytes = h.bytes; place = h.place }
 
 -- memory takes such terms
-moved_within : {n : ℕ} {s : Terms} → ReadWithin n s → (a place : ℕ) (ts : List Tree) → place ≤ n → Each (ReadsBelow n) ts → ReadWithin n (record { registers = s.registers; bytes = put_trees s.bytes a ts; place = place })
+moved_within : {n : ℕ} {s : Terms} → ReadWithin n s → (a place : ℕ) (ts : List Tree) → place ≤ n → Each (ReadsBelow n) ts → ReadWithin n (record { registers = s.registers; bytes = put_trees s.bytes a ts; place = place; cells = s.cells; heap = s.heap })
 moved_within {n} {s} h a place ts le each = record { registers = h.registers; bytes = put_keeps (ReadsBelow n) s.bytes a ts h.bytes each; place = le }
 
 -- the bytes of the input that a read moves
@@ -216,6 +219,7 @@ inputs_within n place (suc k) h = (omega arith, inputs_within n (suc place) k (o
 abbrev IsLeft : ℕ → Reply → Type 0
 IsLeft left (Answers v) = Unit {0}
 IsLeft left (Moves k) = k ≤ left
+IsLeft left (Breaks h a) = Unit {0}
 IsLeft left (Exits code) = Unit {0}
 
 -- a reply that moves no more than is left still does where an address lacks a right
@@ -228,13 +232,19 @@ either_left : (left : ℕ) (b : Bool) (p q : Reply) → IsLeft left p → IsLeft
 either_left left true p q h k = h
 either_left left false p q h k = k
 
+-- the reply to brk
+break_left : (heap : Option Heap) (left a0 : ℕ) → IsLeft left (break_reply heap a0)
+break_left None left a0 = tt
+break_left (Some h) left a0 = either_left left (may_break h a0) (Breaks h a0) (Answers h.brk) tt tt
+
 -- the reply to a call
-reply_left : (m : Map) (left a7 a0 a1 a2 : ℕ) → IsLeft left (reply_to m left a7 a0 a1 a2)
+reply_left : (m : Map) (heap : Option Heap) (left a7 a0 a1 a2 : ℕ) → IsLeft left (reply_to m heap left a7 a0 a1 a2)
 unfolding reply_to
-reply_left m left a7 a0 a1 a2 =
+reply_left m heap left a7 a0 a1 a2 =
     either_left left (a7 == 63) _ _ (either_left left (a0 == 0) _ (Answers (2 ^ 32 - 9)) (none_left left (first_without write m a1 (min a2 left)) (Moves (min a2 left)) (omega arith)) tt)
     (either_left left (a7 == 64) _ _ (either_left left ((a0 == 1) || (a0 == 2)) _ (Answers (2 ^ 32 - 9)) (none_left left (first_without read m a1 a2) (Answers a2) tt) tt)
-    (either_left left ((a7 == 93) || (a7 == 94)) (Exits a0) (Answers (2 ^ 32 - 38)) tt tt))
+    (either_left left ((a7 == 93) || (a7 == 94)) (Exits a0) _ tt
+    (either_left left (a7 == 214) (break_reply heap a0) (Answers (2 ^ 32 - 38)) (break_left heap left a0) tt)))
 
 -- the terms after a call
 reply_within : {n : ℕ} {s : Terms} → ReadWithin n s → (e : Event) (r : Reply) → IsLeft (n - s.place) r → ReadWithin n (after_reply s e r)
@@ -242,11 +252,13 @@ reply_within h e (Answers v) l = put_within h 10 (Const v) tt
 reply_within {n} {s} h e (Moves k) l =
     let place : s.place ≤ n = h.place in
     put_within (moved_within h (call_value e 2) (s.place + k) (input_terms s.place k) (omega arith) (inputs_within n s.place k (omega arith))) 10 (Const k) tt
+reply_within {n} {s} h e (Breaks b a) l =
+    put_within (let w : ReadWithin n (record s { bytes = zero_between s.bytes b.brk a; cells = with_break s.cells b.brk a; heap = Some (record { start = b.start; brk = a }) }) = record { registers = h.registers; bytes = zero_keeps (ReadsBelow n) s.bytes b.brk a tt h.bytes; place = h.place } in w) 10 (Const a) tt
 reply_within h e (Exits code) l = h
 
 -- the terms after an instruction
-row_within : {made : Making} {IsMade : Tree → Type 0} → IsCarefulMaker made IsMade → (image : Map) (n : ℕ) (s : Terms) → ReadWithin n s → (e : Event) (i : Instr) → ReadWithin n (after_row made image n s e i)
-row_within {made} c image n s h e i = by_row i
+row_within : {made : Making} {IsMade : Tree → Type 0} → IsCarefulMaker made IsMade → (n : ℕ) (s : Terms) → ReadWithin n s → (e : Event) (i : Instr) → ReadWithin n (after_row made n s e i)
+row_within {made} c n s h e i = by_row i
   where
     byte : (k : ℕ) (t : Tree) → ReadsBelow n t → ReadsBelow n (byte_term made k t)
     byte k t rt = c.places n Byte t (Const k) rt tt
@@ -271,7 +283,7 @@ row_within {made} c image n s h e i = by_row i
     stored widths.Hu t rt = (byte 0 t rt, (byte 1 t rt, tt))
     stored widths.W t rt = (byte 0 t rt, (byte 1 t rt, (byte 2 t rt, (byte 3 t rt, tt))))
 
-    by_row : (i : Instr) → ReadWithin n (after_row made image n s e i)
+    by_row : (i : Instr) → ReadWithin n (after_row made n s e i)
     by_row (Lui rd imm) = put_within h rd (Const (bits imm)) tt
     by_row (Auipc rd imm) = put_within h rd (Const ((e.pc + bits imm) % 2 ^ 32)) tt
     by_row (Jal rd offset) = put_within h rd (Const (following e.pc)) tt
@@ -282,22 +294,22 @@ row_within {made} c image n s h e i = by_row i
     by_row (AluImm op rd rs1 imm) = put_within h rd (made (Alu op) (reg_term s rs1) (Const (bits imm))) (c.places n (Alu op) (reg_term s rs1) (Const (bits imm)) (h.registers rs1) tt)
     by_row (AluReg op rd rs1 rs2) = put_within h rd (made (Alu op) (reg_term s rs1) (reg_term s rs2)) (c.places n (Alu op) (reg_term s rs1) (reg_term s rs2) (h.registers rs1) (h.registers rs2))
     by_row (Fence word) = h
-    by_row Ecall = reply_within h e (reply_to image (n - s.place) (call_value e 0) (call_value e 1) (call_value e 2) (call_value e 3)) (reply_left image (n - s.place) (call_value e 0) (call_value e 1) (call_value e 2) (call_value e 3))
+    by_row Ecall = reply_within h e (reply_to s.cells s.heap (n - s.place) (call_value e 0) (call_value e 1) (call_value e 2) (call_value e 3)) (reply_left s.cells s.heap (n - s.place) (call_value e 0) (call_value e 1) (call_value e 2) (call_value e 3))
     by_row Ebreak = h
 
 -- the terms after a word that may be illegal
-instr_within : {made : Making} {IsMade : Tree → Type 0} → IsCarefulMaker made IsMade → (image : Map) (n : ℕ) (s : Terms) → ReadWithin n s → (e : Event) (o : Option Instr) → ReadWithin n (after_instr made image n s e o)
-instr_within c image n s h e None = h
-instr_within c image n s h e (Some i) = row_within c image n s h e i
+instr_within : {made : Making} {IsMade : Tree → Type 0} → IsCarefulMaker made IsMade → (n : ℕ) (s : Terms) → ReadWithin n s → (e : Event) (o : Option Instr) → ReadWithin n (after_instr made n s e o)
+instr_within c n s h e None = h
+instr_within c n s h e (Some i) = row_within c n s h e i
 
 -- the terms after an event
-pub after_within : {made : Making} {IsMade : Tree → Type 0} → IsCarefulMaker made IsMade → (image : Map) (n : ℕ) (s : Terms) → ReadWithin n s → (e : Event) → ReadWithin n (terms_after made image n s e)
+pub after_within : {made : Making} {IsMade : Tree → Type 0} → IsCarefulMaker made IsMade → (n : ℕ) (s : Terms) → ReadWithin n s → (e : Event) → ReadWithin n (terms_after made n s e)
 unfolding terms_after
-after_within c image n s h e = instr_within c image n s h e (decoded e.word)
+after_within c n s h e = instr_within c n s h e (decoded e.word)
 
 -- the terms at the start
-pub start_within : (n : ℕ) (image : Map) → ReadWithin n (start_terms image)
-start_within n image = record { registers = λ r. subst (ReadsBelow n) (sym (get_or-map Const start_registers r 0)) tt; bytes = λ a. tt; place = omega arith }
+pub start_within : (n : ℕ) (segments : List Segment) → ReadWithin n (start_terms segments)
+start_within n segments = record { registers = λ r. subst (ReadsBelow n) (sym (get_or-map Const start_registers r 0)) tt; bytes = λ a. tt; place = omega arith }
 
 -- ---- without repeats and the constant 1
 

@@ -7,6 +7,7 @@ use Rattle.rv_event.specs.declared.event.End.TheVariants as ends
 use Rattle.term_model.specs.Tree.{Tree, Const}
 use Rattle.term_model.specs.Value.{val}
 use Rattle.memory_map.specs.Cells.{Map, Cell, byte_at, byte_of_cell, start_map}
+use Rattle.memory_map.proofs.HeapStarts.{start_break}
 use Rattle.rv_machine.specs.State.{State, Next, Goes, Ends, start, start_registers}
 use Rattle.rv_machine.specs.Effects.{step}
 use Rattle.rv_machine.specs.Trace.{Run, with_event, onward, trace, run_of, transcript_of}
@@ -42,38 +43,38 @@ shown_rest k x (Ends (ends.Exit code)) h = absurd h
 shown_rest k x (Ends ends.Limit) h = absurd h
 
 -- a run that goes on from two nexts that look the same
-record AreTogetherNext (image : Map) (IsMade : Tree → Type 0) (n : ℕ) (terms : Terms) (x y : List ℕ) (a b : Next) : Type 0 where
+record AreTogetherNext (IsMade : Tree → Type 0) (n : ℕ) (terms : Terms) (x y : List ℕ) (a b : Next) : Type 0 where
   first : IsInput n x
   second : IsInput n y
-  here : OnGoes (Stands image IsMade terms x) a
-  there : OnGoes (Stands image IsMade terms y) b
+  here : OnGoes (Stands IsMade terms x) a
+  there : OnGoes (Stands IsMade terms y) b
   looks : Looks b a
   aligned : OnGoes IsAligned a
 
 -- what the law says of the runs of so many steps, in both directions
-record IsLawful (made : Making) (image : Map) (n : ℕ) (terms : Terms) (y : List ℕ) (run other : Run) : Type 0 where
-  gives : Hold (follow made image n terms run.events run.end) y → other ≡ run
-  holds : other ≡ run → Hold (follow made image n terms run.events run.end) y
+record IsLawful (made : Making) (n : ℕ) (terms : Terms) (y : List ℕ) (run other : Run) : Type 0 where
+  gives : Hold (follow made n terms run.events run.end) y → other ≡ run
+  holds : other ≡ run → Hold (follow made n terms run.events run.end) y
 
 -- the law for runs of at most k steps
-abbrev LawAt : (made : Making) (IsMade : Tree → Type 0) → Map → ℕ → ℕ → List ℕ → List ℕ → Type 0
-LawAt made IsMade image n k x y = (terms : Terms) (s r : State) → AreTogether image IsMade n terms x y s r → IsTrapped (trace k x s).end → IsLawful made image n terms y (trace k x s) (trace k y r)
+abbrev LawAt : (made : Making) (IsMade : Tree → Type 0) → ℕ → ℕ → List ℕ → List ℕ → Type 0
+LawAt made IsMade n k x y = (terms : Terms) (s r : State) → AreTogether IsMade n terms x y s r → IsTrapped (trace k x s).end → IsLawful made n terms y (trace k x s) (trace k y r)
 
 -- the law for what comes after a step
-next_lawful : {made : Making} {IsMade : Tree → Type 0} → IsMaker made IsMade → (image : Map) (n k : ℕ) (x y : List ℕ) → LawAt made IsMade image n k x y → (terms : Terms) (a b : Next) → AreTogetherNext image IsMade n terms x y a b → IsTrapped (onward (trace k x) a).end → IsLawful made image n terms y (onward (trace k x) a) (onward (trace k y) b)
+next_lawful : {made : Making} {IsMade : Tree → Type 0} → IsMaker made IsMade → (n k : ℕ) (x y : List ℕ) → LawAt made IsMade n k x y → (terms : Terms) (a b : Next) → AreTogetherNext IsMade n terms x y a b → IsTrapped (onward (trace k x) a).end → IsLawful made n terms y (onward (trace k x) a) (onward (trace k y) b)
 unfolding follow
-next_lawful m image n k x y law terms (Goes s) (Goes r) h t = law terms s r (record { first = h.first; second = h.second; here = h.here; there = h.there; pc = h.looks; aligned = h.aligned }) t
-next_lawful m image n k x y law terms (Goes s) (Ends e) h t = absurd h.looks
-next_lawful m image n k x y law terms (Ends e) (Goes r) h t = absurd h.looks
-next_lawful m image n k x y law terms (Ends d) (Ends e) h t = record { gives = λ c. ap (λ f. record { events = []; end = f }) h.looks; holds = λ c. hold_none y }
+next_lawful m n k x y law terms (Goes s) (Goes r) h t = law terms s r (record { first = h.first; second = h.second; here = h.here; there = h.there; pc = h.looks; aligned = h.aligned }) t
+next_lawful m n k x y law terms (Goes s) (Ends e) h t = absurd h.looks
+next_lawful m n k x y law terms (Ends e) (Goes r) h t = absurd h.looks
+next_lawful m n k x y law terms (Ends d) (Ends e) h t = record { gives = λ c. ap (λ f. record { events = []; end = f }) h.looks; holds = λ c. hold_none y }
 
 -- what comes after two steps that look the same
-nexts : {made : Making} {IsMade : Tree → Type 0} → IsMaker made IsMade → {image : Map} {n : ℕ} {terms : Terms} {x y : List ℕ} {s r : State} → AreTogether image IsMade n terms x y s r → LookSame (step x s) (step y r) → AreTogetherNext image IsMade n (terms_after made image n terms (step x s).event) x y (step x s).next (step y r).next
-nexts {made} {IsMade} m {image} {n} {terms} {x} {y} {s} {r} h look = record {
+nexts : {made : Making} {IsMade : Tree → Type 0} → IsMaker made IsMade → {n : ℕ} {terms : Terms} {x y : List ℕ} {s r : State} → AreTogether IsMade n terms x y s r → LookSame (step x s) (step y r) → AreTogetherNext IsMade n (terms_after made n terms (step x s).event) x y (step x s).next (step y r).next
+nexts {made} {IsMade} m {n} {terms} {x} {y} {s} {r} h look = record {
   first = h.first;
   second = h.second;
   here = step_goes m n h.first h.here;
-  there = subst (λ (e : Event). OnGoes (Stands image IsMade (terms_after made image n terms e) y) (step y r).next) look.event (step_goes m n h.second h.there);
+  there = subst (λ (e : Event). OnGoes (Stands IsMade (terms_after made n terms e) y) (step y r).next) look.event (step_goes m n h.second h.there);
   looks = look.next;
   aligned = step_aligned x s h.aligned;
 }
@@ -91,19 +92,19 @@ same_run : (p q : Run) → p.events ≡ q.events → p.end ≡ q.end → p ≡ q
 same_run p q e f = (λ i. record { events = e i; end = f i })
 
 -- a step, and the law for what comes after it
-step_lawful : {made : Making} {IsMade : Tree → Type 0} → IsMaker made IsMade → (image : Map) (n k : ℕ) (x y : List ℕ) → LawAt made IsMade image n k x y → (terms : Terms) (s r : State) → AreTogether image IsMade n terms x y s r → IsTrapped (onward (trace k x) (step x s).next).end → IsLawful made image n terms y (with_event (step x s).event (onward (trace k x) (step x s).next)) (with_event (step y r).event (onward (trace k y) (step y r).next))
+step_lawful : {made : Making} {IsMade : Tree → Type 0} → IsMaker made IsMade → (n k : ℕ) (x y : List ℕ) → LawAt made IsMade n k x y → (terms : Terms) (s r : State) → AreTogether IsMade n terms x y s r → IsTrapped (onward (trace k x) (step x s).next).end → IsLawful made n terms y (with_event (step x s).event (onward (trace k x) (step x s).next)) (with_event (step y r).event (onward (trace k y) (step y r).next))
 unfolding follow
-step_lawful {made} {IsMade} m image n k x y law terms s r h t =
+step_lawful {made} {IsMade} m n k x y law terms s r h t =
     let rest = onward (trace k x) (step x s).next in
     let other = onward (trace k y) (step y r).next in
     let e = (step x s).event in
     let shown = shown_rest k x (step x s).next t in
     let cs = conditions_of made terms e (shown_next rest.events rest.end) in
-    let more = follow made image n (terms_after made image n terms e) rest.events rest.end in
+    let more = follow made n (terms_after made n terms e) rest.events rest.end in
     record {
       gives = λ c.
           let look = step_looks m h (subst (λ (v : ℕ). Hold (conditions_of made terms e v) y) shown (hold_left y cs more c)) in
-          let later = next_lawful m image n k x y law (terms_after made image n terms e) (step x s).next (step y r).next (nexts m h look) t in
+          let later = next_lawful m n k x y law (terms_after made n terms e) (step x s).next (step y r).next (nexts m h look) t in
           (λ i. with_event (look.event i) (later.gives (hold_right y cs more c) i));
       holds = λ c.
           let event : (step y r).event ≡ e = heads (step y r).event e other.events rest.events (λ i. (c i).events) in
@@ -112,15 +113,15 @@ step_lawful {made} {IsMade} m image n k x y law terms s r h t =
           sym (shown_rest k y (step y r).next (subst (λ (p : Run). IsTrapped p.end) (sym same) t)) ∙ (λ i. shown_next (same i).events (same i).end) ∙ shown in
           let holds = step_holds m h event there in
           let look = step_looks m h holds in
-          let later = next_lawful m image n k x y law (terms_after made image n terms e) (step x s).next (step y r).next (nexts m h look) t in
+          let later = next_lawful m n k x y law (terms_after made n terms e) (step x s).next (step y r).next (nexts m h look) t in
           hold_both y cs more (subst (λ (v : ℕ). Hold (conditions_of made terms e v) y) (sym shown) holds) (later.holds same);
     }
 
 -- the law for runs of every length
-run_lawful : {made : Making} {IsMade : Tree → Type 0} → IsMaker made IsMade → (image : Map) (n : ℕ) (x y : List ℕ) (k : ℕ) → LawAt made IsMade image n k x y
+run_lawful : {made : Making} {IsMade : Tree → Type 0} → IsMaker made IsMade → (n : ℕ) (x y : List ℕ) (k : ℕ) → LawAt made IsMade n k x y
 unfolding trace
-run_lawful m image n x y zero terms s r h t = absurd t
-run_lawful m image n x y (suc k) terms s r h t = step_lawful m image n k x y (run_lawful m image n x y k) terms s r h t
+run_lawful m n x y zero terms s r h t = absurd t
+run_lawful m n x y (suc k) terms s r h t = step_lawful m n k x y (run_lawful m n x y k) terms s r h t
 
 -- ---- the start
 
@@ -143,19 +144,20 @@ set_below (u ∷ us) (suc i) zero v b h k = k
 set_below (u ∷ us) (suc i) (suc r) v b h k = set_below us i r v b h k
 
 -- the terms at the start stand for the state at the start, on every input
-start_stands : {made : Making} {IsMade : Tree → Type 0} → IsMaker made IsMade → (program : Program) → IsProgram program → (y : List ℕ) → Stands (start_map program.segments) IsMade (start_terms (start_map program.segments)) y (start program.entry program.segments)
+start_stands : {made : Making} {IsMade : Tree → Type 0} → IsMaker made IsMade → (program : Program) → IsProgram program → (y : List ℕ) → Stands IsMade (start_terms program.segments) y (start program.entry program.segments)
 unfolding start
 start_stands {made} {IsMade} m program h y = record {
-  agrees = record { registers = constants_are y start_registers; memory = λ a. image_is (get (start_map program.segments) a); place = refl };
+  agrees = record { registers = constants_are y start_registers; memory = λ a. image_is (get (start_map program.segments) a); heap = refl; place = refl };
   made = record {
     registers = λ r. subst IsMade (sym (get_or-map Const start_registers r 0)) (m.constant (get_or start_registers r 0) (set_below (replicate 32 0) 2 r 0x7fffff00 (2 ^ 32) (omega arith) (zeros_below 32 r (2 ^ 32) (omega arith))));
     bytes = λ a. m.constant (byte_at (start_map program.segments) a) (omega (arith, start_below program h a));
     small = λ a y bs. start_below program h a;
+    break = start_break program.segments;
   };
 }
 
 -- both runs at the start
-start_together : {made : Making} {IsMade : Tree → Type 0} → IsMaker made IsMade → (program : Program) → IsProgram program → (n : ℕ) (x y : List ℕ) → IsInput n x → IsInput n y → AreTogether (start_map program.segments) IsMade n (start_terms (start_map program.segments)) x y (start program.entry program.segments) (start program.entry program.segments)
+start_together : {made : Making} {IsMade : Tree → Type 0} → IsMaker made IsMade → (program : Program) → IsProgram program → (n : ℕ) (x y : List ℕ) → IsInput n x → IsInput n y → AreTogether IsMade n (start_terms program.segments) x y (start program.entry program.segments) (start program.entry program.segments)
 start_together m program h n x y ix iy = record { first = ix; second = iy; here = start_stands m program h x; there = start_stands m program h y; pc = refl; aligned = start_aligned program h }
 
 -- ---- the law
@@ -164,11 +166,10 @@ start_together m program h n x y ix iy = record { first = ix; second = iy; here 
 same_lawful : {made : Making} {IsMade : Tree → Type 0} → IsMaker made IsMade → FindsEqual → (program : Program) (limit : ℕ) (x y : List ℕ) → IsProgram program → IsInput (length x) x → IsInput (length x) y → IsTrapped (transcript_of program x limit).end → Hold (conditions made program (transcript_of program x limit)) y ↔ (transcript_of program y limit ≡ transcript_of program x limit)
 unfolding conditions transcript_of
 same_lawful {made} m equal program limit x y h ix iy t =
-    let image = start_map program.segments in
     let run = run_of program x limit in
     let other = run_of program y limit in
-    let law = run_lawful m image (length x) x y limit (start_terms image) (start program.entry program.segments) (start program.entry program.segments) (start_together m program h (length x) x y ix iy) t in
-    let ts = follow made image (length x) (start_terms image) run.events run.end in (
+    let law = run_lawful m (length x) x y limit (start_terms program.segments) (start program.entry program.segments) (start program.entry program.segments) (start_together m program h (length x) x y ix iy) t in
+    let ts = follow made (length x) (start_terms program.segments) run.events run.end in (
       λ c. let e = law.gives (kept_give equal y [] ts c) in (λ i. record { n = iy.long i; events = (e i).events; end = (e i).end }),
       λ e. kept_hold y [] ts (hold_none y) (law.holds (same_run other run (λ i. (e i).events) (λ i. (e i).end))),
     )
@@ -194,31 +195,30 @@ conditions_lawful {made} m equal same program limit x y run h c iy =
 -- ---- what each condition is like
 
 -- the conditions of what comes after a step are new ones
-next_new : (made : Making) (IsMade : Tree → Type 0) (image : Map) (n k : ℕ) (x : List ℕ)
-    → ((terms : Terms) (s : State) → Stands image IsMade terms x s → ReadWithin n terms → Each (IsNew IsMade n) (follow made image n terms (trace k x s).events (trace k x s).end))
-    → (terms : Terms) (a : Next) → OnGoes (Stands image IsMade terms x) a → ReadWithin n terms → Each (IsNew IsMade n) (follow made image n terms (onward (trace k x) a).events (onward (trace k x) a).end)
+next_new : (made : Making) (IsMade : Tree → Type 0) (n k : ℕ) (x : List ℕ)
+    → ((terms : Terms) (s : State) → Stands IsMade terms x s → ReadWithin n terms → Each (IsNew IsMade n) (follow made n terms (trace k x s).events (trace k x s).end))
+    → (terms : Terms) (a : Next) → OnGoes (Stands IsMade terms x) a → ReadWithin n terms → Each (IsNew IsMade n) (follow made n terms (onward (trace k x) a).events (onward (trace k x) a).end)
 unfolding follow
-next_new made IsMade image n k x law terms (Goes s) h w = law terms s h w
-next_new made IsMade image n k x law terms (Ends e) h w = tt
+next_new made IsMade n k x law terms (Goes s) h w = law terms s h w
+next_new made IsMade n k x law terms (Ends e) h w = tt
 
 -- the conditions along a run are new ones
-run_new : {made : Making} {IsMade : Tree → Type 0} → IsMaker made IsMade → IsCarefulMaker made IsMade → (image : Map) (n : ℕ) (x : List ℕ) → IsInput n x → (k : ℕ) (terms : Terms) (s : State) → Stands image IsMade terms x s → ReadWithin n terms → Each (IsNew IsMade n) (follow made image n terms (trace k x s).events (trace k x s).end)
+run_new : {made : Making} {IsMade : Tree → Type 0} → IsMaker made IsMade → IsCarefulMaker made IsMade → (n : ℕ) (x : List ℕ) → IsInput n x → (k : ℕ) (terms : Terms) (s : State) → Stands IsMade terms x s → ReadWithin n terms → Each (IsNew IsMade n) (follow made n terms (trace k x s).events (trace k x s).end)
 unfolding trace follow
-run_new m c image n x ix zero terms s h w = tt
-run_new {made} {IsMade} m c image n x ix (suc k) terms s h w =
+run_new m c n x ix zero terms s h w = tt
+run_new {made} {IsMade} m c n x ix (suc k) terms s h w =
     both_each (IsNew IsMade n) (conditions_of made terms (step x s).event (shown_next (onward (trace k x) (step x s).next).events (onward (trace k x) (step x s).next).end)) _
     (new_conditions m c n terms h.made w (step x s).event _)
-    (next_new made IsMade image n k x (λ t r. run_new m c image n x ix k t r) (terms_after made image n terms (step x s).event) (step x s).next (step_goes m n ix h) (after_within c image n terms w (step x s).event))
+    (next_new made IsMade n k x (λ t r. run_new m c n x ix k t r) (terms_after made n terms (step x s).event) (step x s).next (step_goes m n ix h) (after_within c n terms w (step x s).event))
 
 -- each condition of a run is proper
 traced_proper : {made : Making} {IsMade : Tree → Type 0} → IsMaker made IsMade → IsCarefulMaker made IsMade → FindsEqual → ((t : Tree) → same_tree t t ≡ true) → (program : Program) (limit : ℕ) (x : List ℕ) → IsProgram program → IsInput (transcript_of program x limit).n x → IsTrapped (transcript_of program x limit).end → AreProper (transcript_of program x limit).n (conditions made program (transcript_of program x limit))
 unfolding conditions transcript_of
 traced_proper {made} {IsMade} m c equal itself program limit x h ix t =
-    let image = start_map program.segments in
     let run = run_of program x limit in
-    let ts = follow made image (length x) (start_terms image) run.events run.end in
+    let ts = follow made (length x) (start_terms program.segments) run.events run.end in
     kept_proper c (λ d. itself (Const d)) (length x) x [] ts tt
-    (run_new m c image (length x) x ix limit (start_terms image) (start program.entry program.segments) (start_stands m program h x) (start_within (length x) image))
+    (run_new m c (length x) x ix limit (start_terms program.segments) (start program.entry program.segments) (start_stands m program h x) (start_within (length x) program.segments))
     (kept_give equal x [] ts ((same_lawful m equal program limit x x h ix ix t).1 refl))
 
 -- each condition of a crash is proper

@@ -1,8 +1,9 @@
 -- A step of a plain state that agrees with terms leaves one that agrees with the terms after its event.
-use Rattle.std.proofs.Common.{◌≡◌, ℕ, ◌+◌, ◌-◌, ◌%◌, ◌^◌, ◌<◌, ℤ, pos, negsuc, List, length, map, min, Option, Some, None, Bool, true, false, if◌then◌else◌, refl, sym, ap, ◌∙◌, arith, subst, ◌==◌, ◌||◌}
+use Rattle.std.proofs.Common.{◌≡◌, ℕ, ◌+◌, ◌-◌, ◌%◌, ◌^◌, ◌<◌, ℤ, pos, negsuc, List, length, map, min, Option, Some, None, IfSome, nat_lt, Bool, true, false, if◌then◌else◌, refl, sym, ap, ◌∙◌, arith, subst, ◌==◌, ◌||◌}
 use Rattle.std.specs.FinMap.{get}
 use Rattle.rv_word.specs.Word.{alu}
 use Rattle.rv_event.specs.declared.event.TrapKind.TheVariants as traps
+use Rattle.rv_event.specs.declared.event.End.TheVariants as ends
 use Rattle.rv_event.specs.declared.event.Event.{Event}
 use Rattle.rv_decode.specs.Table.{decoded}
 use Rattle.rv_decode.specs.declared.instr.Instr.{Instr}
@@ -14,19 +15,21 @@ use Rattle.term_model.specs.Value.{val}
 use Rattle.term_model.specs.Words.{AreBytes}
 use Rattle.term_model.proofs.ByteLemmas.{bytes_everywhere}
 use Rattle.memory_map.specs.Cells.{Map, execute, read, write, first_without, word_at, placed}
+use Rattle.memory_map.specs.declared.heap.Heap.{Heap}
+use Rattle.memory_map.specs.Heaps.{may_break, with_break}
 use Rattle.rv_machine.specs.State.{State, Next, Goes, Ends, reg, write_reg, at, following, bits, trap}
-use Rattle.rv_machine.specs.Calls.{Reply, Answers, Moves, Exits, if_none, reply_to}
-use Rattle.rv_machine.specs.Effects.{even, jump, taken, size_of, stored, input_bytes, after_load, after_store, after_call, address_of, effect, executed, after_fetch, step}
+use Rattle.rv_machine.specs.Calls.{Reply, Answers, Moves, Breaks, Exits, if_none, break_reply, reply_to}
+use Rattle.rv_machine.specs.Effects.{even, jump, exit, taken, size_of, stored, input_bytes, after_load, after_store, after_call, address_of, effect, executed, after_fetch, step}
 use Rattle.input_laws.specs.Inputs.{IsInput}
 use Rattle.replay_law.specs.Making.{Making, IsMaker}
-use Rattle.replay_law.specs.Terms.{Terms, reg_term, put_reg, put_trees, input_terms, loaded_term, stored_terms, call_value, after_reply, after_row, after_instr, terms_after}
-use Rattle.replay_law.proofs.Agreeing.{reg_value, written_value, written_keeps, placed_valued, put_keeps, Each, same_rights, reply_same}
+use Rattle.replay_law.specs.Terms.{Terms, reg_term, put_reg, put_trees, zero_between, input_terms, loaded_term, stored_terms, call_value, after_reply, after_row, after_instr, terms_after}
+use Rattle.replay_law.proofs.Agreeing.{reg_value, written_value, written_keeps, placed_valued, break_valued, put_keeps, zero_keeps, Each, same_rights, reply_same}
 use Rattle.replay_law.proofs.Moved.{IsByte, loaded_made, loaded_value, stored_value, stored_bytes, input_values, input_are_bytes}
 use Rattle.replay_law.proofs.Agreement.{Agrees, AreMade}
 
 -- a plain state agrees with terms that are made
-pub record Stands (image : Map) (IsMade : Tree → Type 0) (terms : Terms) (y : List ℕ) (s : State) : Type 0 where
-  pub agrees : Agrees image terms y s
+pub record Stands (IsMade : Tree → Type 0) (terms : Terms) (y : List ℕ) (s : State) : Type 0 where
+  pub agrees : Agrees terms y s
   pub made : AreMade IsMade terms
 
 -- what holds of the state after a step, if there is one
@@ -57,39 +60,56 @@ pub bytes_of : {IsMade : Tree → Type 0} {terms : Terms} → AreMade IsMade ter
 bytes_of h a = (h.bytes a, h.small a)
 
 -- another program counter
-stay : {image : Map} {IsMade : Tree → Type 0} {terms : Terms} {y : List ℕ} {s : State} → Stands image IsMade terms y s → (pc : ℕ) → Stands image IsMade terms y (at pc s)
-stay h pc = record { agrees = record { registers = h.agrees.registers; memory = h.agrees.memory; place = h.agrees.place }; made = h.made }
+stay : {IsMade : Tree → Type 0} {terms : Terms} {y : List ℕ} {s : State} → Stands IsMade terms y s → (pc : ℕ) → Stands IsMade terms y (at pc s)
+stay h pc = record { agrees = record { registers = h.agrees.registers; memory = h.agrees.memory; heap = h.agrees.heap; place = h.agrees.place }; made = h.made }
 
 -- another value in a register, and its term
-put : {image : Map} {IsMade : Tree → Type 0} {terms : Terms} {y : List ℕ} {s : State} → Stands image IsMade terms y s → (pc rd v : ℕ) (t : Tree) → v ≡ val t y → IsMade t → Stands image IsMade (put_reg rd t terms) y (at pc (write_reg rd v s))
-put {image} {IsMade} {terms} {y} {s} h pc rd v t e it = record {
-  agrees = record { registers = written_value h.agrees rd v t e; memory = h.agrees.memory; place = h.agrees.place };
-  made = record { registers = λ r. written_keeps IsMade terms.registers rd r t it (h.made.registers r); bytes = h.made.bytes; small = h.made.small };
+put : {IsMade : Tree → Type 0} {terms : Terms} {y : List ℕ} {s : State} → Stands IsMade terms y s → (pc rd v : ℕ) (t : Tree) → v ≡ val t y → IsMade t → Stands IsMade (put_reg rd t terms) y (at pc (write_reg rd v s))
+put {IsMade} {terms} {y} {s} h pc rd v t e it = record {
+  agrees = record { registers = written_value h.agrees rd v t e; memory = h.agrees.memory; heap = h.agrees.heap; place = h.agrees.place };
+  made = record { registers = λ r. written_keeps IsMade terms.registers rd r t it (h.made.registers r); bytes = h.made.bytes; small = h.made.small; break = h.made.break };
 }
 
 -- terms put into memory
-moved : {image : Map} {IsMade : Tree → Type 0} {terms : Terms} {y : List ℕ} {s : State} → Stands image IsMade terms y s → (a place p : ℕ) (bs : List ℕ) (ts : List Tree) → p ≡ place → bs ≡ map (λ u. val u y) ts → Each (IsByte IsMade) ts → Stands image IsMade (record { registers = terms.registers; bytes = put_trees terms.bytes a ts; place = place }) y (record { registers = s.registers; pc = s.pc; memory = placed s.memory a bs; place = p })
-moved {image} {IsMade} {terms} {y} {s} h a place p bs ts f e each = record {
+moved : {IsMade : Tree → Type 0} {terms : Terms} {y : List ℕ} {s : State} → Stands IsMade terms y s → (a place p : ℕ) (bs : List ℕ) (ts : List Tree) → p ≡ place → bs ≡ map (λ u. val u y) ts → Each (IsByte IsMade) ts → Stands IsMade (record { registers = terms.registers; bytes = put_trees terms.bytes a ts; place = place; cells = terms.cells; heap = terms.heap }) y (record { registers = s.registers; pc = s.pc; memory = placed s.memory a bs; heap = s.heap; place = p })
+moved {IsMade} {terms} {y} {s} h a place p bs ts f e each = record {
   agrees = record {
     registers = h.agrees.registers;
-    memory = λ q. ap (λ cs. get (placed s.memory a cs) q) e ∙ (placed_valued image terms.bytes y s.memory a ts (record { at = h.agrees.memory })).at q;
+    memory = λ q. ap (λ cs. get (placed s.memory a cs) q) e ∙ (placed_valued terms.cells terms.bytes y s.memory a ts (record { at = h.agrees.memory })).at q;
+    heap = h.agrees.heap;
     place = f;
   };
   made = record {
     registers = h.made.registers;
     bytes = λ q. (put_keeps (IsByte IsMade) terms.bytes a ts (bytes_of h.made) each q).0;
     small = λ q. (put_keeps (IsByte IsMade) terms.bytes a ts (bytes_of h.made) each q).1;
+    break = h.made.break;
   };
 }
 
+-- the break moved
+broken : {made : Making} {IsMade : Tree → Type 0} → IsMaker made IsMade → {terms : Terms} {y : List ℕ} {s : State} → Stands IsMade terms y s → (b : Heap) (a : ℕ) → a < 2 ^ 32 → Stands IsMade (record terms { bytes = zero_between terms.bytes b.brk a; cells = with_break terms.cells b.brk a; heap = Some (record { start = b.start; brk = a }) }) y (record s { memory = with_break s.memory b.brk a; heap = Some (record { start = b.start; brk = a }) })
+broken {made} {IsMade} m {terms} {y} {s} h b a lt =
+    let zero : IsByte IsMade (Const 0) = (m.constant 0 (omega arith), λ z bs. omega arith) in
+    let each = zero_keeps (IsByte IsMade) terms.bytes b.brk a zero (bytes_of h.made) in
+    record {
+      agrees = record {
+        registers = h.agrees.registers;
+        memory = λ q. (break_valued terms.cells terms.bytes y s.memory b.brk a (record { at = h.agrees.memory })).at q;
+        heap = refl;
+        place = h.agrees.place;
+      };
+      made = record { registers = h.made.registers; bytes = λ q. (each q).0; small = λ q. (each q).1; break = lt };
+    }
+
 -- a load
-load_goes : {made : Making} {IsMade : Tree → Type 0} → IsMaker made IsMade → {image : Map} {terms : Terms} {y : List ℕ} {s : State} → AreBytes y → Stands image IsMade terms y s → (width : Width) (rd a : ℕ) (o : Option ℕ) → first_without read s.memory a (size_of width) ≡ o → OnGoes (Stands image IsMade (put_reg rd (loaded_term made terms.bytes width a) terms) y) (after_load s width rd a o)
-load_goes m {image} {terms} {y} {s} bs h width rd a None ok = put h _ rd _ _ (loaded_value m bs h.agrees (bytes_of h.made) width a ok) (loaded_made m terms.bytes (bytes_of h.made) width a)
+load_goes : {made : Making} {IsMade : Tree → Type 0} → IsMaker made IsMade → {terms : Terms} {y : List ℕ} {s : State} → AreBytes y → Stands IsMade terms y s → (width : Width) (rd a : ℕ) (o : Option ℕ) → first_without read s.memory a (size_of width) ≡ o → OnGoes (Stands IsMade (put_reg rd (loaded_term made terms.bytes width a) terms) y) (after_load s width rd a o)
+load_goes m {terms} {y} {s} bs h width rd a None ok = put h _ rd _ _ (loaded_value m bs h.agrees (bytes_of h.made) width a ok) (loaded_made m terms.bytes (bytes_of h.made) width a)
 load_goes m bs h width rd a (Some fault) ok = tt
 
 -- a store
-store_goes : {made : Making} {IsMade : Tree → Type 0} → IsMaker made IsMade → {image : Map} {terms : Terms} {y : List ℕ} {s : State} → AreBytes y → Stands image IsMade terms y s → (width : Width) (rs2 a : ℕ) (o : Option ℕ) → OnGoes (Stands image IsMade (record terms { bytes = put_trees terms.bytes a (stored_terms made width (reg_term terms rs2)) }) y) (after_store s width (reg s rs2) a o)
-store_goes m {image} {terms} {y} {s} bs h width rs2 a None =
+store_goes : {made : Making} {IsMade : Tree → Type 0} → IsMaker made IsMade → {terms : Terms} {y : List ℕ} {s : State} → AreBytes y → Stands IsMade terms y s → (width : Width) (rs2 a : ℕ) (o : Option ℕ) → OnGoes (Stands IsMade (record terms { bytes = put_trees terms.bytes a (stored_terms made width (reg_term terms rs2)) }) y) (after_store s width (reg s rs2) a o)
+store_goes m {terms} {y} {s} bs h width rs2 a None =
     stay (moved h a terms.place s.place _ _ h.agrees.place (ap (stored width) (reg_value h.agrees rs2) ∙ stored_value m y bs width (reg_term terms rs2) (h.made.registers rs2)) (stored_bytes m width (reg_term terms rs2) (h.made.registers rs2))) _
 store_goes m bs h width rs2 a (Some fault) = tt
 
@@ -97,6 +117,7 @@ store_goes m bs h width rs2 a (Some fault) = tt
 abbrev IsWordReply : Reply → Type 0
 IsWordReply (Answers v) = v < 2 ^ 32
 IsWordReply (Moves k) = k < 2 ^ 32
+IsWordReply (Breaks h a) = a < 2 ^ 32
 IsWordReply (Exits code) = Unit {0}
 
 -- a reply with a word answers one where an address lacks a right
@@ -109,39 +130,54 @@ either_word : (b : Bool) (p q : Reply) → IsWordReply p → IsWordReply q → I
 either_word true p q h k = h
 either_word false p q h k = k
 
+-- the reply to brk
+break_word : (heap : Option Heap) (a0 : ℕ) → IfSome heap (λ h. h.brk < 2 ^ 32) → a0 < 2 ^ 32 → IsWordReply (break_reply heap a0)
+break_word None a0 h k = omega arith
+break_word (Some heap) a0 h k = either_word (may_break heap a0) (Breaks heap a0) (Answers heap.brk) k h
+
 -- the reply to a call answers a word
-reply_word : (m : Map) (left a7 a0 a1 a2 : ℕ) → a2 < 2 ^ 32 → IsWordReply (reply_to m left a7 a0 a1 a2)
+reply_word : (m : Map) (heap : Option Heap) (left a7 a0 a1 a2 : ℕ) → IfSome heap (λ h. h.brk < 2 ^ 32) → a0 < 2 ^ 32 → a2 < 2 ^ 32 → IsWordReply (reply_to m heap left a7 a0 a1 a2)
 unfolding reply_to
-reply_word m left a7 a0 a1 a2 h =
+reply_word m heap left a7 a0 a1 a2 b k h =
     either_word (a7 == 63) _ _ (either_word (a0 == 0) _ _ (if_none_word (first_without write m a1 (min a2 left)) (Moves (min a2 left)) (omega arith)) (omega arith))
     (either_word (a7 == 64) _ _ (either_word ((a0 == 1) || (a0 == 2)) _ _ (if_none_word (first_without read m a1 a2) (Answers a2) h) (omega arith))
-    (either_word ((a7 == 93) || (a7 == 94)) (Exits a0) (Answers (2 ^ 32 - 38)) tt (omega arith)))
+    (either_word ((a7 == 93) || (a7 == 94)) (Exits a0) _ tt
+    (either_word (a7 == 214) (break_reply heap a0) (Answers (2 ^ 32 - 38)) (break_word heap a0 b k) (omega arith))))
+
+-- an exit doesn't go on
+pub exit_goes : (P : State → Type 0) (pc code : ℕ) → OnGoes P (exit pc code)
+exit_goes P pc code = either (nat_lt code 128)
+  where
+    either : (b : Bool) → OnGoes P (if b then Ends (ends.Exit code) else trap pc traps.Abort code)
+    either true = tt
+    either false = tt
 
 -- a call, by its reply
-reply_goes : {made : Making} {IsMade : Tree → Type 0} → IsMaker made IsMade → {image : Map} {terms : Terms} {y : List ℕ} {s : State} → Stands image IsMade terms y s → (e : Event) → call_value e 2 ≡ reg s 11 → (r : Reply) → IsWordReply r → OnGoes (Stands image IsMade (after_reply terms e r) y) (after_call y s r)
+reply_goes : {made : Making} {IsMade : Tree → Type 0} → IsMaker made IsMade → {terms : Terms} {y : List ℕ} {s : State} → Stands IsMade terms y s → (e : Event) → call_value e 2 ≡ reg s 11 → (r : Reply) → IsWordReply r → OnGoes (Stands IsMade (after_reply terms e r) y) (after_call y s r)
 reply_goes m h e a1 (Answers v) w = put h _ 10 v (Const v) refl (m.constant v w)
-reply_goes {IsMade = IsMade} m {image} {terms} {y} {s} h e a1 (Moves k) w =
-    put (subst (λ (a : ℕ). Stands image IsMade (record { registers = terms.registers; bytes = put_trees terms.bytes (call_value e 2) (input_terms terms.place k); place = terms.place + k }) y (record { registers = s.registers; pc = s.pc; memory = placed s.memory a (input_bytes y s.place k); place = s.place + k })) a1
+reply_goes {IsMade = IsMade} m {terms} {y} {s} h e a1 (Moves k) w =
+    put (subst (λ (a : ℕ). Stands IsMade (record { registers = terms.registers; bytes = put_trees terms.bytes (call_value e 2) (input_terms terms.place k); place = terms.place + k; cells = terms.cells; heap = terms.heap }) y (record { registers = s.registers; pc = s.pc; memory = placed s.memory a (input_bytes y s.place k); heap = s.heap; place = s.place + k })) a1
     (moved h (call_value e 2) (terms.place + k) (s.place + k) (input_bytes y s.place k) (input_terms terms.place k) (ap (λ p. p + k) h.agrees.place) (ap (λ p. input_bytes y p k) h.agrees.place ∙ input_values y k terms.place) (input_are_bytes m k terms.place)))
     _ 10 k (Const k) refl (m.constant k w)
-reply_goes m h e a1 (Exits code) w = tt
+reply_goes m h e a1 (Breaks b a) w = put (broken m h b a w) _ 10 a (Const a) refl (m.constant a w)
+reply_goes {IsMade = IsMade} m {terms} {y} {s} h e a1 (Exits code) w = exit_goes (Stands IsMade terms y) s.pc code
 
 -- a jump that writes a register
-jump_put : {image : Map} {IsMade : Tree → Type 0} {terms : Terms} {y : List ℕ} {s : State} → Stands image IsMade terms y s → (pc target rd v : ℕ) (t : Tree) → v ≡ val t y → IsMade t → OnGoes (Stands image IsMade (put_reg rd t terms) y) (jump pc target (write_reg rd v s))
-jump_put {image} {IsMade} {terms} {y} {s} h pc target rd v t e it =
-    jump_goes (Stands image IsMade (put_reg rd t terms) y) pc target (write_reg rd v s) (put h target rd v t e it)
+jump_put : {IsMade : Tree → Type 0} {terms : Terms} {y : List ℕ} {s : State} → Stands IsMade terms y s → (pc target rd v : ℕ) (t : Tree) → v ≡ val t y → IsMade t → OnGoes (Stands IsMade (put_reg rd t terms) y) (jump pc target (write_reg rd v s))
+jump_put {IsMade} {terms} {y} {s} h pc target rd v t e it =
+    jump_goes (Stands IsMade (put_reg rd t terms) y) pc target (write_reg rd v s) (put h target rd v t e it)
 
 -- a branch
-branch_stay : {image : Map} {IsMade : Tree → Type 0} {terms : Terms} {y : List ℕ} {s : State} → Stands image IsMade terms y s → (b : Bool) (pc target : ℕ) → OnGoes (Stands image IsMade terms y) (if b then jump pc target s else Goes (at (following pc) s))
-branch_stay {image} {IsMade} {terms} {y} {s} h true pc target = jump_goes (Stands image IsMade terms y) pc target s (stay h target)
+branch_stay : {IsMade : Tree → Type 0} {terms : Terms} {y : List ℕ} {s : State} → Stands IsMade terms y s → (b : Bool) (pc target : ℕ) → OnGoes (Stands IsMade terms y) (if b then jump pc target s else Goes (at (following pc) s))
+branch_stay {IsMade} {terms} {y} {s} h true pc target = jump_goes (Stands IsMade terms y) pc target s (stay h target)
 branch_stay h false pc target = stay h _
 
--- a call, by a reply that is the image's
-call_goes : {made : Making} {IsMade : Tree → Type 0} → IsMaker made IsMade → {image : Map} {terms : Terms} {y : List ℕ} {s : State} → Stands image IsMade terms y s → (e : Event) → call_value e 2 ≡ reg s 11 → (r q : Reply) → r ≡ q → IsWordReply r → OnGoes (Stands image IsMade (after_reply terms e q) y) (after_call y s r)
-call_goes {IsMade = IsMade} m {image} {terms} {y} {s} h e a1 r q same w = subst (λ (p : Reply). OnGoes (Stands image IsMade (after_reply terms e p) y) (after_call y s r)) same (reply_goes m h e a1 r w)
+-- a call, by a reply that is that of the terms
+call_goes : {made : Making} {IsMade : Tree → Type 0} → IsMaker made IsMade → {terms : Terms} {y : List ℕ} {s : State} → Stands IsMade terms y s → (e : Event) → call_value e 2 ≡ reg s 11 → (r q : Reply) → r ≡ q → IsWordReply r → OnGoes (Stands IsMade (after_reply terms e q) y) (after_call y s r)
+call_goes {IsMade = IsMade} m {terms} {y} {s} h e a1 r q same w = subst (λ (p : Reply). OnGoes (Stands IsMade (after_reply terms e p) y) (after_call y s r)) same (reply_goes m h e a1 r w)
 
 -- the row of each instruction
-row_goes : {made : Making} {IsMade : Tree → Type 0} → IsMaker made IsMade → {image : Map} {terms : Terms} {y : List ℕ} {s : State} → (n : ℕ) → IsInput n y → Stands image IsMade terms y s → (word : ℕ) (i : Instr) → OnGoes (Stands image IsMade (after_row made image n terms (effect y s word i).event i) y) (effect y s word i).next
+row_goes : {made : Making} {IsMade : Tree → Type 0} → IsMaker made IsMade → {terms : Terms} {y : List ℕ} {s : State} → (n : ℕ) → IsInput n y → Stands IsMade terms y s → (word : ℕ) (i : Instr) → OnGoes (Stands IsMade (after_row made n terms (effect y s word i).event i) y) (effect y s word i).next
 unfolding effect
 row_goes m n inp h word (Lui rd imm) = put h _ rd _ (Const (bits imm)) refl (m.constant (bits imm) (bits_below imm))
 row_goes m {s = s} n inp h word (Auipc rd imm) = put h _ rd _ (Const ((s.pc + bits imm) % 2 ^ 32)) refl (m.constant _ (omega arith))
@@ -159,17 +195,18 @@ row_goes {made} m {terms = terms} {y = y} {s = s} n inp h word (AluReg op rd rs1
     ((λ i. alu op (reg_value h.agrees rs1 i) (reg_value h.agrees rs2 i)) ∙ sym (m.keeps (Alu op) (reg_term terms rs1) (reg_term terms rs2) y (h.made.registers rs1) (h.made.registers rs2) tt (bytes_everywhere y inp.in_range)))
     (m.gives (Alu op) (reg_term terms rs1) (reg_term terms rs2) (h.made.registers rs1) (h.made.registers rs2) tt)
 row_goes m n inp h word (Fence bits') = stay h _
-row_goes m {image} {terms} {y} {s} n inp h word Ecall =
+row_goes m {terms} {y} {s} n inp h word Ecall =
+    let v : reg s 10 < 2 ^ 32 = subst (λ (v : ℕ). v < 2 ^ 32) (sym (reg_value h.agrees 10)) (m.words (reg_term terms 10) y (h.made.registers 10) (bytes_everywhere y inp.in_range)) in
     let w : reg s 12 < 2 ^ 32 = subst (λ (v : ℕ). v < 2 ^ 32) (sym (reg_value h.agrees 12)) (m.words (reg_term terms 12) y (h.made.registers 12) (bytes_everywhere y inp.in_range)) in
     call_goes m h (effect y s word Ecall).event refl
-    (reply_to s.memory (length y - s.place) (reg s 17) (reg s 10) (reg s 11) (reg s 12))
-    (reply_to image (n - terms.place) (reg s 17) (reg s 10) (reg s 11) (reg s 12))
-    (reply_same (same_rights h.agrees) (length y - s.place) (reg s 17) (reg s 10) (reg s 11) (reg s 12) ∙ (λ i. reply_to image (inp.long i - h.agrees.place i) (reg s 17) (reg s 10) (reg s 11) (reg s 12)))
-    (reply_word s.memory (length y - s.place) (reg s 17) (reg s 10) (reg s 11) (reg s 12) w)
+    (reply_to s.memory s.heap (length y - s.place) (reg s 17) (reg s 10) (reg s 11) (reg s 12))
+    (reply_to terms.cells terms.heap (n - terms.place) (reg s 17) (reg s 10) (reg s 11) (reg s 12))
+    (reply_same (same_rights h.agrees) s.heap (length y - s.place) (reg s 17) (reg s 10) (reg s 11) (reg s 12) ∙ (λ i. reply_to terms.cells (h.agrees.heap i) (inp.long i - h.agrees.place i) (reg s 17) (reg s 10) (reg s 11) (reg s 12)))
+    (reply_word s.memory s.heap (length y - s.place) (reg s 17) (reg s 10) (reg s 11) (reg s 12) (subst (λ (o : Option Heap). IfSome o (λ x. x.brk < 2 ^ 32)) (sym h.agrees.heap) h.made.break) v w)
 row_goes m n inp h word Ebreak = tt
 
 -- a word that may be illegal
-executed_goes : {made : Making} {IsMade : Tree → Type 0} → IsMaker made IsMade → {image : Map} {terms : Terms} {y : List ℕ} {s : State} → (n : ℕ) → IsInput n y → Stands image IsMade terms y s → (word : ℕ) (o : Option Instr) → OnGoes (Stands image IsMade (after_instr made image n terms (executed y s word o).event o) y) (executed y s word o).next
+executed_goes : {made : Making} {IsMade : Tree → Type 0} → IsMaker made IsMade → {terms : Terms} {y : List ℕ} {s : State} → (n : ℕ) → IsInput n y → Stands IsMade terms y s → (word : ℕ) (o : Option Instr) → OnGoes (Stands IsMade (after_instr made n terms (executed y s word o).event o) y) (executed y s word o).next
 executed_goes m n inp h word None = tt
 executed_goes m n inp h word (Some i) = row_goes m n inp h word i
 
@@ -191,16 +228,16 @@ word_kept y s word (Some Ecall) = refl
 word_kept y s word (Some Ebreak) = refl
 
 -- a step, by its fetch
-fetch_goes : {made : Making} {IsMade : Tree → Type 0} → IsMaker made IsMade → {image : Map} {terms : Terms} {y : List ℕ} {s : State} → (n : ℕ) → IsInput n y → Stands image IsMade terms y s → (o : Option ℕ) → OnGoes (Stands image IsMade (terms_after made image n terms (after_fetch y s o).event) y) (after_fetch y s o).next
+fetch_goes : {made : Making} {IsMade : Tree → Type 0} → IsMaker made IsMade → {terms : Terms} {y : List ℕ} {s : State} → (n : ℕ) → IsInput n y → Stands IsMade terms y s → (o : Option ℕ) → OnGoes (Stands IsMade (terms_after made n terms (after_fetch y s o).event) y) (after_fetch y s o).next
 unfolding terms_after
-fetch_goes {made} {IsMade} m {image} {terms} {y} {s} n inp h None =
+fetch_goes {made} {IsMade} m {terms} {y} {s} n inp h None =
     let word = word_at s.memory s.pc in
     let e = (executed y s word (decoded word)).event in
-    subst (λ (w : ℕ). OnGoes (Stands image IsMade (after_instr made image n terms e (decoded w)) y) (executed y s word (decoded word)).next)
+    subst (λ (w : ℕ). OnGoes (Stands IsMade (after_instr made n terms e (decoded w)) y) (executed y s word (decoded word)).next)
     (sym (word_kept y s word (decoded word))) (executed_goes m n inp h word (decoded word))
 fetch_goes m n inp h (Some fault) = tt
 
 -- one step
-pub step_goes : {made : Making} {IsMade : Tree → Type 0} → IsMaker made IsMade → {image : Map} {terms : Terms} {y : List ℕ} {s : State} → (n : ℕ) → IsInput n y → Stands image IsMade terms y s → OnGoes (Stands image IsMade (terms_after made image n terms (step y s).event) y) (step y s).next
+pub step_goes : {made : Making} {IsMade : Tree → Type 0} → IsMaker made IsMade → {terms : Terms} {y : List ℕ} {s : State} → (n : ℕ) → IsInput n y → Stands IsMade terms y s → OnGoes (Stands IsMade (terms_after made n terms (step y s).event) y) (step y s).next
 unfolding step
-step_goes m {image} {terms} {y} {s} n inp h = fetch_goes m n inp h (first_without execute s.memory s.pc 4)
+step_goes m {terms} {y} {s} n inp h = fetch_goes m n inp h (first_without execute s.memory s.pc 4)

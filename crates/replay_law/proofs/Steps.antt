@@ -27,19 +27,20 @@ use Rattle.replay_law.proofs.Told.{row_gives, row_holds}
 use Rattle.replay_law.proofs.Agreement.{AreMade}
 
 -- two runs that the events so far do not tell apart, with the terms that stand for both
-pub record AreTogether (image : Map) (IsMade : Tree → Type 0) (n : ℕ) (terms : Terms) (x y : List ℕ) (s r : State) : Type 0 where
+pub record AreTogether (IsMade : Tree → Type 0) (n : ℕ) (terms : Terms) (x y : List ℕ) (s r : State) : Type 0 where
   pub first : IsInput n x
   pub second : IsInput n y
-  pub here : Stands image IsMade terms x s
-  pub there : Stands image IsMade terms y r
+  pub here : Stands IsMade terms x s
+  pub there : Stands IsMade terms y r
   pub pc : r.pc ≡ s.pc
   pub aligned : s.pc % 4 ≡ 0
 
 -- two such runs are not told apart
-pub alike : {image : Map} {IsMade : Tree → Type 0} {n : ℕ} {terms : Terms} {x y : List ℕ} {s r : State} → AreTogether image IsMade n terms x y s r → AreAlike x y s r
+pub alike : {IsMade : Tree → Type 0} {n : ℕ} {terms : Terms} {x y : List ℕ} {s r : State} → AreTogether IsMade n terms x y s r → AreAlike x y s r
 alike h = record {
   pc = h.pc;
   rights = both_rights (same_rights h.there.agrees) (same_rights h.here.agrees);
+  heap = h.there.agrees.heap ∙ sym h.here.agrees.heap;
   left = (λ i. h.second.long i - h.there.agrees.place i) ∙ sym (λ i. h.first.long i - h.here.agrees.place i);
 }
 
@@ -82,22 +83,22 @@ memory_byte_holds m {terms} h y bs a w k e =
     eq_holds m y bs (terms.bytes a) (Const (byte_of k w)) (h.bytes a) (m.constant (byte_of k w) lt) e
 
 -- a fetched word is below 2 ^ 32
-fetched_below : {IsMade : Tree → Type 0} → {image : Map} {terms : Terms} {x : List ℕ} {s : State} → AreBytes x → Stands image IsMade terms x s → (a : ℕ) → first_without execute s.memory a 4 ≡ None → word_at s.memory a < 2 ^ 32
-fetched_below {IsMade} {image} {terms} {x} {s} bs h a ok =
+fetched_below : {IsMade : Tree → Type 0} → {terms : Terms} {x : List ℕ} {s : State} → AreBytes x → Stands IsMade terms x s → (a : ℕ) → first_without execute s.memory a 4 ≡ None → word_at s.memory a < 2 ^ 32
+fetched_below {IsMade} {terms} {x} {s} bs h a ok =
     subst (λ (v : ℕ). v < 2 ^ 32) (sym (word_value h.agrees execute a ok))
     (word_below _ _ _ _ (h.made.small a x bs) (h.made.small (next_address a) x bs) (h.made.small (next_address (next_address a)) x bs) (h.made.small (next_address (next_address (next_address a))) x bs))
 
 -- the fetched word is the event's where its conditions hold
-fetch_gives : {made : Making} {IsMade : Tree → Type 0} → IsMaker made IsMade → {image : Map} {terms : Terms} {y : List ℕ} {r : State} → AreBytes y → Stands image IsMade terms y r → (a w : ℕ) → w < 2 ^ 32 → first_without execute r.memory a 4 ≡ None → Hold (fetch_conditions made terms a w) y → word_at r.memory a ≡ w
-fetch_gives m {image} {terms} {y} {r} bs h a w lt ok c =
+fetch_gives : {made : Making} {IsMade : Tree → Type 0} → IsMaker made IsMade → {terms : Terms} {y : List ℕ} {r : State} → AreBytes y → Stands IsMade terms y r → (a w : ℕ) → w < 2 ^ 32 → first_without execute r.memory a 4 ≡ None → Hold (fetch_conditions made terms a w) y → word_at r.memory a ≡ w
+fetch_gives m {terms} {y} {r} bs h a w lt ok c =
     word_value h.agrees execute a ok
     ∙ word_from w _ _ _ _ lt
     (memory_byte_gives m h.made y bs a w 0 (c 0 (terms.bytes a) (omega arith))) (memory_byte_gives m h.made y bs (next_address a) w 1 (c 1 (terms.bytes a) (omega arith)))
     (memory_byte_gives m h.made y bs (next_address (next_address a)) w 2 (c 2 (terms.bytes a) (omega arith))) (memory_byte_gives m h.made y bs (next_address (next_address (next_address a))) w 3 (c 3 (terms.bytes a) (omega arith)))
 
 -- the conditions hold where the fetched word is the event's
-fetch_holds : {made : Making} {IsMade : Tree → Type 0} → IsMaker made IsMade → {image : Map} {terms : Terms} {y : List ℕ} {r : State} → AreBytes y → Stands image IsMade terms y r → (a w : ℕ) → first_without execute r.memory a 4 ≡ None → word_at r.memory a ≡ w → Hold (fetch_conditions made terms a w) y
-fetch_holds m {image} {terms} {y} {r} bs h a w ok e =
+fetch_holds : {made : Making} {IsMade : Tree → Type 0} → IsMaker made IsMade → {terms : Terms} {y : List ℕ} {r : State} → AreBytes y → Stands IsMade terms y r → (a w : ℕ) → first_without execute r.memory a 4 ≡ None → word_at r.memory a ≡ w → Hold (fetch_conditions made terms a w) y
+fetch_holds m {terms} {y} {r} bs h a w ok e =
     let v = sym (word_value h.agrees execute a ok) ∙ e in
     let p = h.made.small a y bs in
     let q = h.made.small (next_address a) y bs in
@@ -127,19 +128,19 @@ conditions_kept made terms x s word shown (Some Ecall) = refl
 conditions_kept made terms x s word shown (Some Ebreak) = refl
 
 -- an instruction, or an illegal word, looks the same where its conditions hold
-executed_looks : {made : Making} {IsMade : Tree → Type 0} → IsMaker made IsMade → {image : Map} {n : ℕ} {terms : Terms} {x y : List ℕ} {s r : State} → AreTogether image IsMade n terms x y s r → (word : ℕ) (o : Option Instr) → Hold (instr_conditions made terms (executed x s word o).event (shown_by (executed x s word o).next) o) y → LookSame (executed x s word o) (executed y r word o)
+executed_looks : {made : Making} {IsMade : Tree → Type 0} → IsMaker made IsMade → {n : ℕ} {terms : Terms} {x y : List ℕ} {s r : State} → AreTogether IsMade n terms x y s r → (word : ℕ) (o : Option Instr) → Hold (instr_conditions made terms (executed x s word o).event (shown_by (executed x s word o).next) o) y → LookSame (executed x s word o) (executed y r word o)
 executed_looks m {s = s} {r = r} h word None c = record { event = plain_same s r h.pc word; next = trap_same r.pc s.pc h.pc traps.Illegal word word refl }
 executed_looks m {x = x} {y = y} h word (Some i) c = row_looks (alike h) h.aligned word i (row_gives m (bytes_everywhere x h.first.in_range) (bytes_everywhere y h.second.in_range) h.here h.there word i c)
 
 -- its conditions hold where it looks the same
-executed_holds : {made : Making} {IsMade : Tree → Type 0} → IsMaker made IsMade → {image : Map} {n : ℕ} {terms : Terms} {x y : List ℕ} {s r : State} → AreTogether image IsMade n terms x y s r → (word : ℕ) (o : Option Instr) → (executed y r word o).event ≡ (executed x s word o).event → shown_by (executed y r word o).next ≡ shown_by (executed x s word o).next → Hold (instr_conditions made terms (executed x s word o).event (shown_by (executed x s word o).next) o) y
+executed_holds : {made : Making} {IsMade : Tree → Type 0} → IsMaker made IsMade → {n : ℕ} {terms : Terms} {x y : List ℕ} {s r : State} → AreTogether IsMade n terms x y s r → (word : ℕ) (o : Option Instr) → (executed y r word o).event ≡ (executed x s word o).event → shown_by (executed y r word o).next ≡ shown_by (executed x s word o).next → Hold (instr_conditions made terms (executed x s word o).event (shown_by (executed x s word o).next) o) y
 executed_holds m {y = y} h word None e f = hold_none y
 executed_holds m {x = x} {y = y} h word (Some i) e f = row_holds m (bytes_everywhere x h.first.in_range) (bytes_everywhere y h.second.in_range) h.here h.there word i (row_pins (alike h) word i e f)
 
 -- a step, by its fetch, looks the same where its conditions hold
-fetched_looks : {made : Making} {IsMade : Tree → Type 0} → IsMaker made IsMade → {image : Map} {n : ℕ} {terms : Terms} {x y : List ℕ} {s r : State} → AreTogether image IsMade n terms x y s r → (o : Option ℕ) → first_without execute s.memory s.pc 4 ≡ o → first_without execute r.memory s.pc 4 ≡ o → Hold (conditions_of made terms (after_fetch x s o).event (shown_by (after_fetch x s o).next)) y → LookSame (after_fetch x s o) (after_fetch y r o)
+fetched_looks : {made : Making} {IsMade : Tree → Type 0} → IsMaker made IsMade → {n : ℕ} {terms : Terms} {x y : List ℕ} {s r : State} → AreTogether IsMade n terms x y s r → (o : Option ℕ) → first_without execute s.memory s.pc 4 ≡ o → first_without execute r.memory s.pc 4 ≡ o → Hold (conditions_of made terms (after_fetch x s o).event (shown_by (after_fetch x s o).next)) y → LookSame (after_fetch x s o) (after_fetch y r o)
 unfolding conditions_of
-fetched_looks {made} m {image} {n} {terms} {x} {y} {s} {r} h None ok ko c =
+fetched_looks {made} m {n} {terms} {x} {y} {s} {r} h None ok ko c =
     let word = word_at s.memory s.pc in
     let o = decoded word in
     let c2 = subst (λ (ts : List Tree). Hold ts y) (conditions_kept made terms x s word (shown_by (executed x s word o).next) o) c in
@@ -149,9 +150,9 @@ fetched_looks {made} m {image} {n} {terms} {x} {y} {s} {r} h None ok ko c =
 fetched_looks m {s = s} {r = r} h (Some fault) ok ko c = record { event = event_same s r h.pc 0 0 0 refl no_call no_call refl kinds.NoFetch; next = trap_same r.pc s.pc h.pc traps.FetchFault r.pc s.pc h.pc }
 
 -- its conditions hold where it looks the same
-fetched_holds : {made : Making} {IsMade : Tree → Type 0} → IsMaker made IsMade → {image : Map} {n : ℕ} {terms : Terms} {x y : List ℕ} {s r : State} → AreTogether image IsMade n terms x y s r → (o : Option ℕ) → first_without execute s.memory s.pc 4 ≡ o → first_without execute r.memory s.pc 4 ≡ o → (after_fetch y r o).event ≡ (after_fetch x s o).event → shown_by (after_fetch y r o).next ≡ shown_by (after_fetch x s o).next → Hold (conditions_of made terms (after_fetch x s o).event (shown_by (after_fetch x s o).next)) y
+fetched_holds : {made : Making} {IsMade : Tree → Type 0} → IsMaker made IsMade → {n : ℕ} {terms : Terms} {x y : List ℕ} {s r : State} → AreTogether IsMade n terms x y s r → (o : Option ℕ) → first_without execute s.memory s.pc 4 ≡ o → first_without execute r.memory s.pc 4 ≡ o → (after_fetch y r o).event ≡ (after_fetch x s o).event → shown_by (after_fetch y r o).next ≡ shown_by (after_fetch x s o).next → Hold (conditions_of made terms (after_fetch x s o).event (shown_by (after_fetch x s o).next)) y
 unfolding conditions_of
-fetched_holds {made} m {image} {n} {terms} {x} {y} {s} {r} h None ok ko e f =
+fetched_holds {made} m {n} {terms} {x} {y} {s} {r} h None ok ko e f =
     let word = word_at s.memory s.pc in
     let v = word_at r.memory r.pc in
     let o = decoded word in
@@ -165,22 +166,22 @@ fetched_holds {made} m {image} {n} {terms} {x} {y} {s} {r} h None ok ko e f =
 fetched_holds m {y = y} h (Some fault) ok ko e f = hold_none y
 
 -- both fetches from one address have the same fault
-faults_there : {image : Map} {IsMade : Tree → Type 0} {n : ℕ} {terms : Terms} {x y : List ℕ} {s r : State} → AreTogether image IsMade n terms x y s r → first_without execute r.memory s.pc 4 ≡ first_without execute s.memory s.pc 4
+faults_there : {IsMade : Tree → Type 0} {n : ℕ} {terms : Terms} {x y : List ℕ} {s r : State} → AreTogether IsMade n terms x y s r → first_without execute r.memory s.pc 4 ≡ first_without execute s.memory s.pc 4
 faults_there {x = x} {y = y} {s = s} {r = r} h = first_same r.memory s.memory (alike h).rights execute 4 s.pc
 
 -- both fetches have the same fault
-faults_at : {image : Map} {IsMade : Tree → Type 0} {n : ℕ} {terms : Terms} {x y : List ℕ} {s r : State} → AreTogether image IsMade n terms x y s r → first_without execute r.memory r.pc 4 ≡ first_without execute s.memory s.pc 4
+faults_at : {IsMade : Tree → Type 0} {n : ℕ} {terms : Terms} {x y : List ℕ} {s r : State} → AreTogether IsMade n terms x y s r → first_without execute r.memory r.pc 4 ≡ first_without execute s.memory s.pc 4
 faults_at {x = x} {y = y} {s = s} {r = r} h = ap (λ a. first_without execute r.memory a 4) h.pc ∙ faults_there h
 
 -- an input that meets the conditions of a step has a step that looks the same
-pub step_looks : {made : Making} {IsMade : Tree → Type 0} → IsMaker made IsMade → {image : Map} {n : ℕ} {terms : Terms} {x y : List ℕ} {s r : State} → AreTogether image IsMade n terms x y s r → Hold (conditions_of made terms (step x s).event (shown_by (step x s).next)) y → LookSame (step x s) (step y r)
+pub step_looks : {made : Making} {IsMade : Tree → Type 0} → IsMaker made IsMade → {n : ℕ} {terms : Terms} {x y : List ℕ} {s r : State} → AreTogether IsMade n terms x y s r → Hold (conditions_of made terms (step x s).event (shown_by (step x s).next)) y → LookSame (step x s) (step y r)
 unfolding step
 step_looks m {x = x} {y = y} {s = s} {r = r} h c =
     subst (λ (o : Option ℕ). LookSame (after_fetch x s (first_without execute s.memory s.pc 4)) (after_fetch y r o)) (sym (faults_at h))
     (fetched_looks m h (first_without execute s.memory s.pc 4) refl (faults_there h) c)
 
 -- an input whose step has the same event, and shows the same, meets its conditions
-pub step_holds : {made : Making} {IsMade : Tree → Type 0} → IsMaker made IsMade → {image : Map} {n : ℕ} {terms : Terms} {x y : List ℕ} {s r : State} → AreTogether image IsMade n terms x y s r → (step y r).event ≡ (step x s).event → shown_by (step y r).next ≡ shown_by (step x s).next → Hold (conditions_of made terms (step x s).event (shown_by (step x s).next)) y
+pub step_holds : {made : Making} {IsMade : Tree → Type 0} → IsMaker made IsMade → {n : ℕ} {terms : Terms} {x y : List ℕ} {s r : State} → AreTogether IsMade n terms x y s r → (step y r).event ≡ (step x s).event → shown_by (step y r).next ≡ shown_by (step x s).next → Hold (conditions_of made terms (step x s).event (shown_by (step x s).next)) y
 unfolding step
 step_holds m {x = x} {y = y} {s = s} {r = r} h e f =
     fetched_holds m h (first_without execute s.memory s.pc 4) refl (faults_there h)

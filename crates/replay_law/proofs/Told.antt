@@ -24,8 +24,8 @@ use Rattle.replay_law.proofs.Pinned.{shown_by, target_of, IsPinned, jump_shows}
 use Rattle.replay_law.proofs.Agreement.{AreMade}
 
 -- the value of a data address
-sum_value : {made : Making} {IsMade : Tree → Type 0} → IsMaker made IsMade → {image : Map} {terms : Terms} {y : List ℕ} {r : State} → AreBytes y → Stands image IsMade terms y r → (rs1 imm : ℕ) → imm < 2 ^ 32 → val (sum_term made terms rs1 imm) y ≡ address_of r rs1 imm
-sum_value m {image} {terms} {y} {r} bs h rs1 imm lt =
+sum_value : {made : Making} {IsMade : Tree → Type 0} → IsMaker made IsMade → {terms : Terms} {y : List ℕ} {r : State} → AreBytes y → Stands IsMade terms y r → (rs1 imm : ℕ) → imm < 2 ^ 32 → val (sum_term made terms rs1 imm) y ≡ address_of r rs1 imm
+sum_value m {terms} {y} {r} bs h rs1 imm lt =
     m.keeps (Alu Add) (reg_term terms rs1) (Const imm) y (h.made.registers rs1) (m.constant imm lt) tt bs ∙ ap (λ v. (v + imm) % 2 ^ 32) (sym (reg_value h.agrees rs1))
 
 -- a data address is made
@@ -33,8 +33,8 @@ sum_made : {made : Making} {IsMade : Tree → Type 0} → IsMaker made IsMade �
 sum_made m {terms} h rs1 imm lt = m.gives (Alu Add) (reg_term terms rs1) (Const imm) (h.registers rs1) (m.constant imm lt) tt
 
 -- the value of a register is a word
-reg_below : {made : Making} {IsMade : Tree → Type 0} → IsMaker made IsMade → {image : Map} {terms : Terms} {y : List ℕ} {r : State} → AreBytes y → Stands image IsMade terms y r → (k : ℕ) → reg r k < 2 ^ 32
-reg_below m {image} {terms} {y} {r} bs h k = subst (λ (v : ℕ). v < 2 ^ 32) (sym (reg_value h.agrees k)) (m.words (reg_term terms k) y (h.made.registers k) bs)
+reg_below : {made : Making} {IsMade : Tree → Type 0} → IsMaker made IsMade → {terms : Terms} {y : List ℕ} {r : State} → AreBytes y → Stands IsMade terms y r → (k : ℕ) → reg r k < 2 ^ 32
+reg_below m {terms} {y} {r} bs h k = subst (λ (v : ℕ). v < 2 ^ 32) (sym (reg_value h.agrees k)) (m.words (reg_term terms k) y (h.made.registers k) bs)
 
 -- a number with bit 0 cleared is even
 even_even : (n : ℕ) → even n % 2 ≡ 0
@@ -50,18 +50,18 @@ shown_target true pc t s far = eq-eqb _ _ (jump_shows pc t s)
 shown_target false pc t s far = ne_eqb _ _ (λ e. far (sym e))
 
 -- the state r on y and the state s on x agree with the same terms, and have the same program counter
-pub row_gives : {made : Making} {IsMade : Tree → Type 0} → IsMaker made IsMade → {image : Map} {terms : Terms} {x y : List ℕ} {s r : State} → AreBytes x → AreBytes y → Stands image IsMade terms x s → Stands image IsMade terms y r → (word : ℕ) (i : Instr) → Hold (row_conditions made terms (effect x s word i).event (shown_by (effect x s word i).next) i) y → IsPinned s r i
+pub row_gives : {made : Making} {IsMade : Tree → Type 0} → IsMaker made IsMade → {terms : Terms} {x y : List ℕ} {s r : State} → AreBytes x → AreBytes y → Stands IsMade terms x s → Stands IsMade terms y r → (word : ℕ) (i : Instr) → Hold (row_conditions made terms (effect x s word i).event (shown_by (effect x s word i).next) i) y → IsPinned s r i
 unfolding effect
 row_gives m bx bs hx h word (Lui rd imm) c = tt
 row_gives m bx bs hx h word (Auipc rd imm) c = tt
 row_gives m bx bs hx h word (Jal rd offset) c = tt
-row_gives {made} m {image} {terms} {x} {y} {s} {r} bx bs hx h word (Jalr rd rs1 imm) c =
+row_gives {made} m {terms} {x} {y} {s} {r} bx bs hx h word (Jalr rd rs1 imm) c =
     let t = sum_term made terms rs1 (bits imm) in
     let e = jump_shows s.pc (even (address_of s rs1 (bits imm))) (write_reg rd (following s.pc) s) in
     ap even (sym (sum_value m bs h rs1 (bits imm) (bits_below imm)))
     ∙ target_gives m y bs t (even (address_of s rs1 (bits imm))) (sum_made m h.made rs1 (bits imm) (bits_below imm)) (even_below (reg s rs1 + bits imm)) (even_even (address_of s rs1 (bits imm)))
     (subst (λ (v : ℕ). Hold (target made t v) y) e c)
-row_gives {made} m {image} {terms} {x} {y} {s} {r} bx bs hx h word (Branch cond rs1 rs2 offset) c =
+row_gives {made} m {terms} {x} {y} {s} {r} bx bs hx h word (Branch cond rs1 rs2 offset) c =
     if_held y (target_of s (bits offset) == following s.pc) [] (outcome made cond (reg_term terms rs1) (reg_term terms rs2) (shown_by (effect x s word (Branch cond rs1 rs2 offset)).next == target_of s (bits offset)))
     (IsPinned s r (Branch cond rs1 rs2 offset))
     (λ near k. inl (eqb-true _ _ near))
@@ -70,14 +70,14 @@ row_gives {made} m {image} {terms} {x} {y} {s} {r} bx bs hx h word (Branch cond 
     ∙ outcome_gives m y bs cond (reg_term terms rs1) (reg_term terms rs2) (shown_by (effect x s word (Branch cond rs1 rs2 offset)).next == target_of s (bits offset)) (h.made.registers rs1) (h.made.registers rs2) k
     ∙ shown_target (taken cond (reg s rs1) (reg s rs2)) s.pc (target_of s (bits offset)) s (eqb-false _ _ far)))
     c
-row_gives {made} m {image} {terms} {x} {y} {s} {r} bx bs hx h word (Load width rd rs1 imm) c =
+row_gives {made} m {terms} {x} {y} {s} {r} bx bs hx h word (Load width rd rs1 imm) c =
     sym (sum_value m bs h rs1 (bits imm) (bits_below imm)) ∙ pin_gives m y bs (sum_term made terms rs1 (bits imm)) (address_of s rs1 (bits imm)) (sum_made m h.made rs1 (bits imm) (bits_below imm)) (omega arith) c
-row_gives {made} m {image} {terms} {x} {y} {s} {r} bx bs hx h word (Store width rs1 rs2 imm) c =
+row_gives {made} m {terms} {x} {y} {s} {r} bx bs hx h word (Store width rs1 rs2 imm) c =
     sym (sum_value m bs h rs1 (bits imm) (bits_below imm)) ∙ pin_gives m y bs (sum_term made terms rs1 (bits imm)) (address_of s rs1 (bits imm)) (sum_made m h.made rs1 (bits imm) (bits_below imm)) (omega arith) c
 row_gives m bx bs hx h word (AluImm op rd rs1 imm) c = tt
 row_gives m bx bs hx h word (AluReg op rd rs1 rs2) c = tt
 row_gives m bx bs hx h word (Fence bits') c = tt
-row_gives {made} m {image} {terms} {x} {y} {s} {r} bx bs hx h word Ecall c =
+row_gives {made} m {terms} {x} {y} {s} {r} bx bs hx h word Ecall c =
     let p = pin made (reg_term terms 17) (reg s 17) in
     let q = pin made (reg_term terms 10) (reg s 10) in
     let u = pin made (reg_term terms 11) (reg s 11) in
@@ -96,29 +96,29 @@ far_or_same (inl a) f = absurd (f a)
 far_or_same (inr b) f = b
 
 -- the conditions of an instruction hold where the values that it pins are the same
-pub row_holds : {made : Making} {IsMade : Tree → Type 0} → IsMaker made IsMade → {image : Map} {terms : Terms} {x y : List ℕ} {s r : State} → AreBytes x → AreBytes y → Stands image IsMade terms x s → Stands image IsMade terms y r → (word : ℕ) (i : Instr) → IsPinned s r i → Hold (row_conditions made terms (effect x s word i).event (shown_by (effect x s word i).next) i) y
+pub row_holds : {made : Making} {IsMade : Tree → Type 0} → IsMaker made IsMade → {terms : Terms} {x y : List ℕ} {s r : State} → AreBytes x → AreBytes y → Stands IsMade terms x s → Stands IsMade terms y r → (word : ℕ) (i : Instr) → IsPinned s r i → Hold (row_conditions made terms (effect x s word i).event (shown_by (effect x s word i).next) i) y
 unfolding effect
 row_holds m {y = y} bx bs hx h word (Lui rd imm) p = hold_none y
 row_holds m {y = y} bx bs hx h word (Auipc rd imm) p = hold_none y
 row_holds m {y = y} bx bs hx h word (Jal rd offset) p = hold_none y
-row_holds {made} m {image} {terms} {x} {y} {s} {r} bx bs hx h word (Jalr rd rs1 imm) p =
+row_holds {made} m {terms} {x} {y} {s} {r} bx bs hx h word (Jalr rd rs1 imm) p =
     target_holds m y bs (sum_term made terms rs1 (bits imm)) _ (sum_made m h.made rs1 (bits imm) (bits_below imm))
     (ap even (sum_value m bs h rs1 (bits imm) (bits_below imm)) ∙ p ∙ sym (jump_shows s.pc (even (address_of s rs1 (bits imm))) (write_reg rd (following s.pc) s)))
-row_holds {made} m {image} {terms} {x} {y} {s} {r} bx bs hx h word (Branch cond rs1 rs2 offset) p =
+row_holds {made} m {terms} {x} {y} {s} {r} bx bs hx h word (Branch cond rs1 rs2 offset) p =
     hold_if y (target_of s (bits offset) == following s.pc) [] (outcome made cond (reg_term terms rs1) (reg_term terms rs2) (shown_by (effect x s word (Branch cond rs1 rs2 offset)).next == target_of s (bits offset)))
     (λ near. hold_none y)
     (λ far. outcome_holds m y bs cond (reg_term terms rs1) (reg_term terms rs2) (shown_by (effect x s word (Branch cond rs1 rs2 offset)).next == target_of s (bits offset)) (h.made.registers rs1) (h.made.registers rs2)
     (sym (λ i. taken cond (reg_value h.agrees rs1 i) (reg_value h.agrees rs2 i))
     ∙ far_or_same p (eqb-false _ _ far)
     ∙ sym (shown_target (taken cond (reg s rs1) (reg s rs2)) s.pc (target_of s (bits offset)) s (eqb-false _ _ far))))
-row_holds {made} m {image} {terms} {x} {y} {s} {r} bx bs hx h word (Load width rd rs1 imm) p =
+row_holds {made} m {terms} {x} {y} {s} {r} bx bs hx h word (Load width rd rs1 imm) p =
     pin_holds m y bs (sum_term made terms rs1 (bits imm)) (address_of s rs1 (bits imm)) (sum_made m h.made rs1 (bits imm) (bits_below imm)) (sum_value m bs h rs1 (bits imm) (bits_below imm) ∙ p)
-row_holds {made} m {image} {terms} {x} {y} {s} {r} bx bs hx h word (Store width rs1 rs2 imm) p =
+row_holds {made} m {terms} {x} {y} {s} {r} bx bs hx h word (Store width rs1 rs2 imm) p =
     pin_holds m y bs (sum_term made terms rs1 (bits imm)) (address_of s rs1 (bits imm)) (sum_made m h.made rs1 (bits imm) (bits_below imm)) (sum_value m bs h rs1 (bits imm) (bits_below imm) ∙ p)
 row_holds m {y = y} bx bs hx h word (AluImm op rd rs1 imm) p = hold_none y
 row_holds m {y = y} bx bs hx h word (AluReg op rd rs1 rs2) p = hold_none y
 row_holds m {y = y} bx bs hx h word (Fence bits') p = hold_none y
-row_holds {made} m {image} {terms} {x} {y} {s} {r} bx bs hx h word Ecall p =
+row_holds {made} m {terms} {x} {y} {s} {r} bx bs hx h word Ecall p =
     hold_both y (pin made (reg_term terms 17) (reg s 17)) _ (pin_holds m y bs (reg_term terms 17) (reg s 17) (h.made.registers 17) (sym (reg_value h.agrees 17) ∙ p.a7))
     (hold_both y (pin made (reg_term terms 10) (reg s 10)) _ (pin_holds m y bs (reg_term terms 10) (reg s 10) (h.made.registers 10) (sym (reg_value h.agrees 10) ∙ p.a0))
     (hold_both y (pin made (reg_term terms 11) (reg s 11)) _ (pin_holds m y bs (reg_term terms 11) (reg s 11) (h.made.registers 11) (sym (reg_value h.agrees 11) ∙ p.a1))

@@ -13,7 +13,7 @@ use Rattle.rv_decode.specs.declared.instr.Instr.{Instr}
 use Rattle.rv_decode.specs.declared.instr.Instr.TheVariants.{Lui, Auipc, Jal, Jalr, Branch, Load, Store, AluImm, AluReg, Fence, Ecall, Ebreak}
 use Rattle.term_model.specs.declared.Op.TheVariants.{Eq}
 use Rattle.term_model.specs.Tree.{Tree, Const}
-use Rattle.memory_map.specs.Cells.{Map, next_address, start_map}
+use Rattle.memory_map.specs.Cells.{next_address}
 use Rattle.rv_machine.specs.State.{following, bits}
 use Rattle.replay_law.specs.Making.{Making}
 use Rattle.replay_law.specs.Forms.{pin, target, outcome, with_conditions}
@@ -74,11 +74,11 @@ shown_next [] (ends.Exit code) = 0
 shown_next [] ends.Limit = 0
 
 -- the conditions along the events, from the terms before the first
-unfoldable pub follow : Making → Map → ℕ → Terms → List Event → End → List Tree
-follow made image n s [] end = []
-follow made image n s (e ∷ es) end = conditions_of made s e (shown_next es end) ++ follow made image n (terms_after made image n s e) es end
+unfoldable pub follow : Making → ℕ → Terms → List Event → End → List Tree
+follow made n s [] end = []
+follow made n s (e ∷ es) end = conditions_of made s e (shown_next es end) ++ follow made n (terms_after made n s e) es end
 
 -- The conditions of a run of a program, from the program and what the run tells alone: no input is among the arguments.
 unfoldable pub conditions : Making → Program → Transcript → List Tree
 conditions made program run =
-    with_conditions [] (follow made (start_map program.segments) run.n (start_terms (start_map program.segments)) run.events run.end)
+    with_conditions [] (follow made run.n (start_terms program.segments) run.events run.end)

@@ -1,6 +1,6 @@
 -- Registers and bytes of memory as terms over the input, and what each event makes of them.
 -- Addresses, counts and the values of calls are those that the event tells: none is a term.
-use Rattle.std.specs.Prelude.{ℕ, zero, suc, ◌+◌, ◌-◌, ◌%◌, ◌^◌, ◌==◌, List, [], ◌∷◌, map, Option, Some, None, slice_index, slice_index_or, slice_set, if◌then◌else◌}
+use Rattle.std.specs.Prelude.{ℕ, zero, suc, ◌+◌, ◌-◌, ◌%◌, ◌^◌, ◌==◌, ◌||◌, List, [], ◌∷◌, map, Option, Some, None, slice_index, slice_index_or, slice_set, if◌then◌else◌}
 use Rattle.rv_word.specs.declared.AluOp.TheVariants.{Add, Sll, Sra}
 use Rattle.rv_event.specs.declared.event.Event.{Event}
 use Rattle.rv_decode.specs.Table.{decoded}
@@ -10,17 +10,24 @@ use Rattle.rv_decode.specs.declared.instr.Width.{Width}
 use Rattle.rv_decode.specs.declared.instr.Width.TheVariants as widths
 use Rattle.term_model.specs.declared.Op.TheVariants.{Alu, Pair, Half}
 use Rattle.term_model.specs.Tree.{Tree, Const, Input}
-use Rattle.memory_map.specs.Cells.{Map, next_address, byte_at}
+use Rattle.elf32.specs.declared.segments.Segment.{Segment}
+use Rattle.memory_map.specs.Cells.{Map, next_address, byte_at, start_map}
+use Rattle.memory_map.specs.declared.heap.Heap.{Heap}
+use Rattle.memory_map.specs.Heaps.{with_break, start_heap}
+use Rattle.memory_map.specs.Layout.{is_among}
 use Rattle.rv_machine.specs.State.{following, bits, start_registers}
-use Rattle.rv_machine.specs.Calls.{Reply, Answers, Moves, Exits, reply_to}
+use Rattle.rv_machine.specs.Calls.{Reply, Answers, Moves, Breaks, Exits, reply_to}
 use Rattle.replay_law.specs.Making.{Making}
 use Rattle.replay_law.specs.Forms.{byte_term}
 
--- the terms of the registers x0 to x31 and of the byte at each address, and how many bytes of the input have been read
+-- the terms of the registers x0 to x31 and of the byte at each address, how many bytes of the input have been read, which addresses
+-- memory has with which rights (the bytes of these cells are not read), and the heap
 pub record Terms : Type 0 where
   pub registers : List Tree
   pub bytes : ℕ → Tree
   pub place : ℕ
+  pub cells : Map
+  pub heap : Option Heap
 
 -- ---- registers
 
@@ -50,6 +57,10 @@ with_tree bytes address t q = if q == address then t else bytes q
 unfoldable pub put_trees : (ℕ → Tree) → ℕ → List Tree → ℕ → Tree
 put_trees bytes address [] = bytes
 put_trees bytes address (t ∷ ts) = put_trees (with_tree bytes address t) (next_address address) ts
+
+-- bytes as the break moves: those that enter memory are zero; those that leave it have no cell, and are zero as well
+abbrev pub zero_between : (ℕ → Tree) → ℕ → ℕ → ℕ → Tree
+zero_between bytes old new q = if is_among old (new - old) q || is_among new (old - new) q then Const 0 else bytes q
 
 -- so many bytes of the input from a place on
 unfoldable pub input_terms : ℕ → ℕ → List Tree
@@ -86,36 +97,39 @@ stored_terms made widths.W t = byte_term made 0 t ∷ byte_term made 1 t ∷ byt
 abbrev pub call_value : Event → ℕ → ℕ
 call_value e k = slice_index e.call k
 
--- what a call leaves: its answer is a constant, and the bytes that a read moves are bytes of the input
+-- what a call leaves: its answer is a constant, the bytes that a read moves are bytes of the input, and those that the break moves
+-- past are zero
 abbrev pub after_reply : Terms → Event → Reply → Terms
 after_reply s e (Answers v) = put_reg 10 (Const v) s
 after_reply s e (Moves k) = put_reg 10 (Const k) (record s { bytes = put_trees s.bytes (call_value e 2) (input_terms s.place k); place = s.place + k })
+after_reply s e (Breaks h a) = put_reg 10 (Const a) (record s { bytes = zero_between s.bytes h.brk a; cells = with_break s.cells h.brk a; heap = Some (record { start = h.start; brk = a }) })
 after_reply s e (Exits code) = s
 
--- what an instruction leaves, by its event; the image tells the rights of memory, and n is the input's length
-abbrev pub after_row : Making → Map → ℕ → Terms → Event → Instr → Terms
-after_row made image n s e (Lui rd imm) = put_reg rd (Const (bits imm)) s
-after_row made image n s e (Auipc rd imm) = put_reg rd (Const ((e.pc + bits imm) % 2 ^ 32)) s
-after_row made image n s e (Jal rd offset) = put_reg rd (Const (following e.pc)) s
-after_row made image n s e (Jalr rd rs1 imm) = put_reg rd (Const (following e.pc)) s
-after_row made image n s e (Branch cond rs1 rs2 offset) = s
-after_row made image n s e (Load width rd rs1 imm) = put_reg rd (loaded_term made s.bytes width e.addr) s
-after_row made image n s e (Store width rs1 rs2 imm) = record s { bytes = put_trees s.bytes e.addr (stored_terms made width (reg_term s rs2)) }
-after_row made image n s e (AluImm op rd rs1 imm) = put_reg rd (made (Alu op) (reg_term s rs1) (Const (bits imm))) s
-after_row made image n s e (AluReg op rd rs1 rs2) = put_reg rd (made (Alu op) (reg_term s rs1) (reg_term s rs2)) s
-after_row made image n s e (Fence word) = s
-after_row made image n s e Ecall = after_reply s e (reply_to image (n - s.place) (call_value e 0) (call_value e 1) (call_value e 2) (call_value e 3))
-after_row made image n s e Ebreak = s
+-- what an instruction leaves, by its event; n is the input's length
+abbrev pub after_row : Making → ℕ → Terms → Event → Instr → Terms
+after_row made n s e (Lui rd imm) = put_reg rd (Const (bits imm)) s
+after_row made n s e (Auipc rd imm) = put_reg rd (Const ((e.pc + bits imm) % 2 ^ 32)) s
+after_row made n s e (Jal rd offset) = put_reg rd (Const (following e.pc)) s
+after_row made n s e (Jalr rd rs1 imm) = put_reg rd (Const (following e.pc)) s
+after_row made n s e (Branch cond rs1 rs2 offset) = s
+after_row made n s e (Load width rd rs1 imm) = put_reg rd (loaded_term made s.bytes width e.addr) s
+after_row made n s e (Store width rs1 rs2 imm) = record s { bytes = put_trees s.bytes e.addr (stored_terms made width (reg_term s rs2)) }
+after_row made n s e (AluImm op rd rs1 imm) = put_reg rd (made (Alu op) (reg_term s rs1) (Const (bits imm))) s
+after_row made n s e (AluReg op rd rs1 rs2) = put_reg rd (made (Alu op) (reg_term s rs1) (reg_term s rs2)) s
+after_row made n s e (Fence word) = s
+after_row made n s e Ecall = after_reply s e (reply_to s.cells s.heap (n - s.place) (call_value e 0) (call_value e 1) (call_value e 2) (call_value e 3))
+after_row made n s e Ebreak = s
 
 -- an illegal word leaves the terms as they are
-abbrev pub after_instr : Making → Map → ℕ → Terms → Event → Option Instr → Terms
-after_instr made image n s e None = s
-after_instr made image n s e (Some i) = after_row made image n s e i
+abbrev pub after_instr : Making → ℕ → Terms → Event → Option Instr → Terms
+after_instr made n s e None = s
+after_instr made n s e (Some i) = after_row made n s e i
 
 -- the terms after an event
-unfoldable pub terms_after : Making → Map → ℕ → Terms → Event → Terms
-terms_after made image n s e = after_instr made image n s e (decoded e.word)
+unfoldable pub terms_after : Making → ℕ → Terms → Event → Terms
+terms_after made n s e = after_instr made n s e (decoded e.word)
 
--- at the start all terms are constants
-abbrev pub start_terms : Map → Terms
-start_terms image = record { registers = map Const start_registers; bytes = λ a. Const (byte_at image a); place = 0 }
+-- at the start of a program all terms are constants
+abbrev pub start_terms : List Segment → Terms
+start_terms segments =
+    record { registers = map Const start_registers; bytes = λ a. Const (byte_at (start_map segments) a); place = 0; cells = start_map segments; heap = start_heap segments }

@@ -21,6 +21,7 @@ pub fn kind_word(kind: TrapKind) -> &'static str
         TrapKind::LoadFault => "load",
         TrapKind::StoreFault => "store",
         TrapKind::Breakpoint => "breakpoint",
+        TrapKind::Abort => "abort",
     }
 }
 

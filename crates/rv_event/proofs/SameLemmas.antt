@@ -45,6 +45,7 @@ trap_kind_same traps.MisalignedJump traps.MisalignedJump e = refl
 trap_kind_same traps.LoadFault traps.LoadFault e = refl
 trap_kind_same traps.StoreFault traps.StoreFault e = refl
 trap_kind_same traps.Breakpoint traps.Breakpoint e = refl
+trap_kind_same traps.Abort traps.Abort e = refl
 trap_kind_same a b e = cc
 
 trap_kind_itself : (a : TrapKind) → same_trap_kind a a ≡ true
@@ -54,6 +55,7 @@ trap_kind_itself traps.MisalignedJump = refl
 trap_kind_itself traps.LoadFault = refl
 trap_kind_itself traps.StoreFault = refl
 trap_kind_itself traps.Breakpoint = refl
+trap_kind_itself traps.Abort = refl
 
 numbers_same : (xs ys : List ℕ) → same_numbers xs ys ≡ true → xs ≡ ys
 unfolding same_numbers

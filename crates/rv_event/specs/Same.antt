@@ -27,6 +27,7 @@ same_trap_kind traps.MisalignedJump traps.MisalignedJump = true
 same_trap_kind traps.LoadFault traps.LoadFault = true
 same_trap_kind traps.StoreFault traps.StoreFault = true
 same_trap_kind traps.Breakpoint traps.Breakpoint = true
+same_trap_kind traps.Abort traps.Abort = true
 same_trap_kind _ _ = false
 
 -- two lists have the same numbers in the same order

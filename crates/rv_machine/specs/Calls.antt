@@ -1,12 +1,16 @@
--- What ECALL does, by the values that the call was made with, the rights of memory, and the bytes left of the input.
+-- What ECALL does, by the values that the call was made with, the rights of memory, the heap, and the bytes left of the input.
 -- The number of the call is in a7 (x17), its arguments are in a0, a1 and a2 (x10, x11 and x12).
 use Rattle.std.specs.Prelude.{ℕ, ◌-◌, ◌^◌, ◌==◌, ◌||◌, min, if◌then◌else◌, Option, Some, None}
 use Rattle.memory_map.specs.Cells.{Map, first_without, read, write}
+use Rattle.memory_map.specs.declared.heap.Heap.{Heap}
+use Rattle.memory_map.specs.Heaps.{may_break}
 
--- an answer in a0 alone, the next bytes of the input moved to a1 and counted in a0, or the end with a code
+-- an answer in a0 alone, the next bytes of the input moved to a1 and counted in a0, the heap's break moved to an address that is the
+-- answer, or the end with a code
 pub data Reply : Type 0 where
   Answers : ℕ → Reply
   Moves : ℕ → Reply
+  Breaks : Heap → ℕ → Reply
   Exits : ℕ → Reply
 
 -- -9 as a word: no such descriptor
@@ -34,10 +38,16 @@ read_reply memory left a0 a1 a2 = if a0 == 0 then if_none (first_without write m
 abbrev pub write_reply : Map → ℕ → ℕ → ℕ → Reply
 write_reply memory a0 a1 a2 = if (a0 == 1) || (a0 == 2) then if_none (first_without read memory a1 a2) (Answers a2) else Answers bad_descriptor
 
--- read, write, exit (93) and exit_group (94), and every other number
-unfoldable pub reply_to : Map → ℕ → ℕ → ℕ → ℕ → ℕ → Reply
-reply_to memory left a7 a0 a1 a2 =
+-- brk (214): the break moves to a0 where it may be there, and else stays
+abbrev pub break_reply : Option Heap → ℕ → Reply
+break_reply None a0 = Answers no_such_call
+break_reply (Some heap) a0 = if may_break heap a0 then Breaks heap a0 else Answers heap.brk
+
+-- read, write, exit (93) and exit_group (94), brk, and every other number
+unfoldable pub reply_to : Map → Option Heap → ℕ → ℕ → ℕ → ℕ → ℕ → Reply
+reply_to memory heap left a7 a0 a1 a2 =
     if a7 == 63 then read_reply memory left a0 a1 a2
     else if a7 == 64 then write_reply memory a0 a1 a2
     else if (a7 == 93) || (a7 == 94) then Exits a0
+    else if a7 == 214 then break_reply heap a0
     else Answers no_such_call

@@ -14,8 +14,9 @@ use Rattle.rv_event.specs.declared.event.EventKind.TheVariants as kinds
 use Rattle.rv_event.specs.declared.event.TrapKind.TheVariants as traps
 use Rattle.rv_event.specs.declared.event.End.TheVariants as ends
 use Rattle.memory_map.specs.Cells.{Map, execute, read, write, first_without, byte_at, half_at, word_at, placed}
+use Rattle.memory_map.specs.Heaps.{with_break}
 use Rattle.rv_machine.specs.State.{State, Next, Goes, Ends, Outcome, reg, write_reg, at, following, bits, no_call, event_of, trap}
-use Rattle.rv_machine.specs.Calls.{Reply, Answers, Moves, Exits, reply_to}
+use Rattle.rv_machine.specs.Calls.{Reply, Answers, Moves, Breaks, Exits, reply_to}
 
 -- an instruction that writes a register and goes on to the next
 abbrev pub goes_on : State → ℕ → ℕ → Next
@@ -87,11 +88,16 @@ unfoldable pub input_bytes : List ℕ → ℕ → ℕ → List ℕ
 input_bytes input place zero = []
 input_bytes input place (suc count) = slice_index input place ∷ input_bytes input (suc place) count
 
+-- an exit with a code: from 128 on it is an abort
+abbrev pub exit : ℕ → ℕ → Next
+exit pc code = if nat_lt code 128 then Ends (ends.Exit code) else trap pc traps.Abort code
+
 -- a call, by its reply
 abbrev pub after_call : List ℕ → State → Reply → Next
 after_call input s (Answers v) = goes_on s 10 v
 after_call input s (Moves k) = goes_on (record s { memory = placed s.memory (reg s 11) (input_bytes input s.place k); place = s.place + k }) 10 k
-after_call input s (Exits code) = Ends (ends.Exit code)
+after_call input s (Breaks heap a) = goes_on (record s { memory = with_break s.memory heap.brk a; heap = Some (record { start = heap.start; brk = a }) }) 10 a
+after_call input s (Exits code) = exit s.pc code
 
 -- ---- the instructions
 
@@ -123,7 +129,7 @@ effect x s word (Fence bits') = plain s word (Goes (at (following s.pc) s))
 effect x s word Ecall =
     record {
       event = event_of s word 0 (reg s 17 ∷ reg s 10 ∷ reg s 11 ∷ reg s 12 ∷ []) kinds.Call;
-      next = after_call x s (reply_to s.memory (length x - s.place) (reg s 17) (reg s 10) (reg s 11) (reg s 12));
+      next = after_call x s (reply_to s.memory s.heap (length x - s.place) (reg s 17) (reg s 10) (reg s 11) (reg s 12));
     }
 effect x s word Ebreak = plain s word (trap s.pc traps.Breakpoint 0)
 

@@ -1,8 +1,10 @@
 -- A machine under way, and how it follows the steps.
 use Rattle.std.specs.Prelude.{◌≡◌, ℕ, List, Bool, true, false, Option, Some, None, refl}
 use Rattle.std.specs.FinMap as finmap
-use Rattle.std.specs.Coded.{Coded, code_by, coded×, coded_ℕ, coded_list, coded_bool}
+use Rattle.std.specs.Coded.{Coded, code_by, coded×, coded_ℕ, coded_list, coded_option, coded_bool}
 use Rattle.memory_map.specs.Cells.{Map, cell_code}
+use Rattle.memory_map.specs.declared.heap.Heap.{Heap}
+use Rattle.memory_map.specs.Heaps.{heap_code}
 use Rattle.rv_event.specs.declared.event.End.{End}
 use Rattle.rv_machine.specs.State.{State, Next, Goes, Ends}
 use Rattle.rv_machine.specs.Trace.{has_ended}
@@ -14,9 +16,9 @@ pub record Progress : Type 0 where
 
 abbrev pub state_code : Coded State
 state_code =
-    code_by (List ℕ × (ℕ × (Map × ℕ))) (coded× (coded_list coded_ℕ) (coded× coded_ℕ (coded× (finmap.code coded_ℕ cell_code) coded_ℕ)))
-    (λ s. (s.registers, (s.pc, (s.memory, s.place))))
-    (λ p. record { registers = p.0; pc = p.1.0; memory = p.1.1.0; place = p.1.1.1 })
+    code_by (List ℕ × (ℕ × (Map × (Option Heap × ℕ)))) (coded× (coded_list coded_ℕ) (coded× coded_ℕ (coded× (finmap.code coded_ℕ cell_code) (coded× (coded_option heap_code) coded_ℕ))))
+    (λ s. (s.registers, (s.pc, (s.memory, (s.heap, s.place)))))
+    (λ p. record { registers = p.0; pc = p.1.0; memory = p.1.1.0; heap = p.1.1.1.0; place = p.1.1.1.1 })
     (λ _. refl)
 
 abbrev pub progress_code : Coded Progress

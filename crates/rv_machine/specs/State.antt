@@ -1,7 +1,9 @@
 -- The state of a machine, on plain numbers.
-use Rattle.std.specs.Prelude.{ℕ, ◌+◌, ◌%◌, ◌^◌, ◌==◌, List, [], ◌∷◌, ℤ, slice_index, slice_set, replicate, if◌then◌else◌}
+use Rattle.std.specs.Prelude.{ℕ, Option, ◌+◌, ◌%◌, ◌^◌, ◌==◌, List, [], ◌∷◌, ℤ, slice_index, slice_set, replicate, if◌then◌else◌}
 use Rattle.elf32.specs.declared.segments.Segment.{Segment}
 use Rattle.memory_map.specs.Cells.{Map, start_map}
+use Rattle.memory_map.specs.declared.heap.Heap.{Heap}
+use Rattle.memory_map.specs.Heaps.{start_heap}
 use Rattle.rv_event.specs.declared.event.Event.{Event}
 use Rattle.rv_event.specs.declared.event.EventKind.{EventKind}
 use Rattle.rv_event.specs.declared.event.TrapKind.{TrapKind}
@@ -9,11 +11,12 @@ use Rattle.rv_event.specs.declared.event.End.{End}
 use Rattle.rv_event.specs.declared.event.End.TheVariants as ends
 use Rattle.rv_word.specs.Word.{word}
 
--- the registers x0 to x31, the program counter, the memory, and how many bytes of the input have been read
+-- the registers x0 to x31, the program counter, the memory, the heap, and how many bytes of the input have been read
 pub record State : Type 0 where
   pub registers : List ℕ
   pub pc : ℕ
   pub memory : Map
+  pub heap : Option Heap
   pub place : ℕ
 
 -- what comes of a step: the state after it, or the end
@@ -68,4 +71,4 @@ start_registers = slice_set (replicate 32 0) 2 0x7fffff00
 
 -- the state at the start of a program, by its entry and its segments
 unfoldable pub start : ℕ → List Segment → State
-start entry segments = record { registers = start_registers; pc = entry; memory = start_map segments; place = 0 }
+start entry segments = record { registers = start_registers; pc = entry; memory = start_map segments; heap = start_heap segments; place = 0 }

@@ -32,7 +32,7 @@ pub fn size_of(width: Width) -> usize
 /// The byte at an address, or the address where it may not be read.
 #[tactic(auto, unfolding(memory_map::specs::Cells::first_without))]
 fn byte(memory: &Memory, address: u32) -> Result<u8, u32>
-    ensures { result ≡ ok_unless (first_without read memory.now address 1) (byte_at memory.now address) }
+    ensures { result ≡ ok_unless (first_without read memory.now.map address 1) (byte_at memory.now.map address) }
 {
     memory.load(address).ok_or(address)
 }
@@ -40,7 +40,7 @@ fn byte(memory: &Memory, address: u32) -> Result<u8, u32>
 /// The value of a load, or the address of the first byte that may not be read.
 pub fn loaded(memory: &Memory, width: Width, address: u32) -> Result<u32, u32>
     ensures { result
-        ≡ ok_unless (first_without read memory.now address (size_of width)) (loaded memory.now width address) }
+        ≡ ok_unless (first_without read memory.now.map address (size_of width)) (loaded memory.now.map width address) }
 {
     match width {
         Width::B => Ok(sign_extended(8, u32::from(byte(memory, address)?)).cast_unsigned()),

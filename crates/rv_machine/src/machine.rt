@@ -5,8 +5,8 @@ ghost use Rattle.memory_map.specs.Cells.{first_without};
 ghost use Rattle.memory_map.specs.Cells as cells;
 ghost use Rattle.rv_decode.specs.Rows.{IsWellFormed};
 ghost use Rattle.rv_machine.specs.State.{Goes, Ends, reg, write_reg, at, following, bits, no_call, event_of, trap, start};
-ghost use Rattle.rv_machine.specs.Calls.{read_reply, write_reply, reply_to};
-ghost use Rattle.rv_machine.specs.Effects.{goes_on, taken, jump, size_of, stored, address_of, after_load, after_store, input_bytes, after_call, effect, step};
+ghost use Rattle.rv_machine.specs.Calls.{read_reply, write_reply, break_reply, reply_to};
+ghost use Rattle.rv_machine.specs.Effects.{goes_on, taken, jump, exit, size_of, stored, address_of, after_load, after_store, input_bytes, after_call, effect, step};
 ghost use Rattle.rv_machine.specs.Progress.{Follows, EndsRun};
 ghost use Rattle.rv_machine.specs.Plain.{IsPlain};
 
@@ -57,7 +57,7 @@ impl Model for Machine {
 
     ghost coded = { progress_code };
 
-    ghost view = { λ m. record { state = record { registers = m.registers; pc = m.pc; memory = m.memory; place = m.place }; over = m.over } };
+    ghost view = { λ m. record { state = record { registers = m.registers; pc = m.pc; memory = m.memory.map; heap = m.memory.heap; place = m.place }; over = m.over } };
 }
 
 /// Whether a branch is taken.
@@ -304,17 +304,41 @@ impl Machine {
         }
     }
 
+    /// The call brk.
+    fn brk_call(&mut self) -> Option<End>
+        ensures { (input : List ℕ) →
+            Follows self.old (after_call input self.old.state (break_reply self.old.state.heap (reg self.old.state 10))) result self.new }
+    {
+        let address = self.read(10);
+        match self.memory.brk(address) {
+            Some(brk) => self.answer(brk),
+            None => self.answer(NO_SUCH_CALL),
+        }
+    }
+
+    /// The calls exit and exit_group. A code of 128 or more is an abort.
+    fn exit(&mut self, code: u32) -> Option<End>
+        ensures { Follows self.old (exit self.old.state.pc code) result self.new }
+    {
+        if code < 128 {
+            self.stop(End::Exit(code))
+        } else {
+            self.trap(TrapKind::Abort, code)
+        }
+    }
+
     /// The call that a7 names.
     #[tactic(auto, unfolding(crate::specs::Calls::reply_to))]
     fn call(&mut self, input: &[u8]) -> Option<End>
         requires place { self.old.state.place ≤ length input.now }
         requires size { length input.now ≤ 65536 }
-        ensures { Follows self.old (after_call input.now self.old.state (reply_to self.old.state.memory (length input.now - self.old.state.place) (reg self.old.state 17) (reg self.old.state 10) (reg self.old.state 11) (reg self.old.state 12))) result self.new }
+        ensures { Follows self.old (after_call input.now self.old.state (reply_to self.old.state.memory self.old.state.heap (length input.now - self.old.state.place) (reg self.old.state 17) (reg self.old.state 10) (reg self.old.state 11) (reg self.old.state 12))) result self.new }
     {
         match self.read(17) {
             63 => self.read_call(input),
             64 => self.write_call(),
-            93 | 94 => self.stop(End::Exit(self.read(10))),
+            93 | 94 => self.exit(self.read(10)),
+            214 => self.brk_call(),
             _ => self.answer(NO_SUCH_CALL),
         }
     }

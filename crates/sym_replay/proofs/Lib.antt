@@ -1,3 +1,4 @@
 pub mod StateLemmas
 pub mod PinLemmas
 pub mod RunLemmas
+pub mod HeapLemmas

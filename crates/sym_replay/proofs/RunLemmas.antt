@@ -22,27 +22,27 @@ drop_next (x ∷ es) zero e item = let same : x ≡ e = cc in ap (λ h. h ∷ es
 drop_next (x ∷ es) (suc k) e item = drop_next es k e item
 
 -- the conditions of the next event, and those of the events after it
-follow_next : (image : Map) (n : ℕ) (s : Terms) (e : Event) (es : List Event) (end : End) → follow norm image n s (e ∷ es) end ≡ conditions_of norm s e (shown_next es end) ++ follow norm image n (terms_after norm image n s e) es end
+follow_next : (n : ℕ) (s : Terms) (e : Event) (es : List Event) (end : End) → follow norm n s (e ∷ es) end ≡ conditions_of norm s e (shown_next es end) ++ follow norm n (terms_after norm n s e) es end
 unfolding follow
-follow_next image n s e es end = refl
+follow_next n s e es end = refl
 
 -- one more event is followed
-pub next_event : (image : Map) (n : ℕ) (es : List Event) (end : End) (all : List Tree) (k : ℕ) (e : Event) → slice_get es k ≡ Some e → (ts new : List Tree) (s t : Terms) → with_conditions ts (follow norm image n s (drop k es) end) ≡ all → new ≡ with_conditions ts (conditions_of norm s e (shown_next (drop (k + 1) es) end)) → t ≡ terms_after norm image n s e → with_conditions new (follow norm image n t (drop (k + 1) es) end) ≡ all
-next_event image n es end all k e item ts new s t before added after =
+pub next_event : (n : ℕ) (es : List Event) (end : End) (all : List Tree) (k : ℕ) (e : Event) → slice_get es k ≡ Some e → (ts new : List Tree) (s t : Terms) → with_conditions ts (follow norm n s (drop k es) end) ≡ all → new ≡ with_conditions ts (conditions_of norm s e (shown_next (drop (k + 1) es) end)) → t ≡ terms_after norm n s e → with_conditions new (follow norm n t (drop (k + 1) es) end) ≡ all
+next_event n es end all k e item ts new s t before added after =
     let next : k + 1 ≡ suc k = omega arith in
     let first = conditions_of norm s e (shown_next (drop (k + 1) es) end) in
-    let rest = follow norm image n (terms_after norm image n s e) (drop (k + 1) es) end in
+    let rest = follow norm n (terms_after norm n s e) (drop (k + 1) es) end in
     let split : drop k es ≡ e ∷ drop (k + 1) es = drop_next es k e item ∙ ap (λ j. e ∷ drop j es) (sym next) in
-    (λ i. with_conditions (added i) (follow norm image n (after i) (drop (k + 1) es) end))
+    (λ i. with_conditions (added i) (follow norm n (after i) (drop (k + 1) es) end))
     ∙ sym (with_conditions-append ts first rest)
-    ∙ ap (with_conditions ts) (sym (follow_next image n s e (drop (k + 1) es) end))
-    ∙ ap (λ fs. with_conditions ts (follow norm image n s fs end)) (sym split)
+    ∙ ap (with_conditions ts) (sym (follow_next n s e (drop (k + 1) es) end))
+    ∙ ap (λ fs. with_conditions ts (follow norm n s fs end)) (sym split)
     ∙ before
 
 -- before the first event
-pub at_start : (program : Program) (run : Transcript) (ts : List Tree) (s : Terms) → ts ≡ [] → s ≡ start_terms (start_map program.segments) → with_conditions ts (follow norm (start_map program.segments) run.n s (drop 0 run.events) run.end) ≡ whole.conditions_of program run
+pub at_start : (program : Program) (run : Transcript) (ts : List Tree) (s : Terms) → ts ≡ [] → s ≡ start_terms program.segments → with_conditions ts (follow norm run.n s (drop 0 run.events) run.end) ≡ whole.conditions_of program run
 unfolding whole.conditions_of conditions
-at_start program run ts s none start = (λ i. with_conditions (none i) (follow norm (start_map program.segments) run.n (start i) (drop 0 run.events) run.end))
+at_start program run ts s none start = (λ i. with_conditions (none i) (follow norm run.n (start i) (drop 0 run.events) run.end))
 
 drop_all : (es : List Event) (k : ℕ) → k ≡ length es → drop k es ≡ []
 drop_all [] zero e = refl
@@ -50,14 +50,14 @@ drop_all [] (suc k) e = refl
 drop_all (x ∷ es) zero e = absurd (omega arith)
 drop_all (x ∷ es) (suc k) e = drop_all es k (omega arith)
 
-follow_none : (image : Map) (n : ℕ) (s : Terms) (end : End) → follow norm image n s [] end ≡ []
+follow_none : (n : ℕ) (s : Terms) (end : End) → follow norm n s [] end ≡ []
 unfolding follow
-follow_none image n s end = refl
+follow_none n s end = refl
 
 -- after the last event
-pub at_end : (image : Map) (n : ℕ) (es : List Event) (end : End) (all ts : List Tree) (s : Terms) (k : ℕ) → k ≡ length es → with_conditions ts (follow norm image n s (drop k es) end) ≡ all → ts ≡ all
-at_end image n es end all ts s k last before =
+pub at_end : (n : ℕ) (es : List Event) (end : End) (all ts : List Tree) (s : Terms) (k : ℕ) → k ≡ length es → with_conditions ts (follow norm n s (drop k es) end) ≡ all → ts ≡ all
+at_end n es end all ts s k last before =
     sym (with_conditions-none ts)
-    ∙ ap (with_conditions ts) (sym (follow_none image n s end))
-    ∙ ap (λ fs. with_conditions ts (follow norm image n s fs end)) (sym (drop_all es k last))
+    ∙ ap (with_conditions ts) (sym (follow_none n s end))
+    ∙ ap (λ fs. with_conditions ts (follow norm n s fs end)) (sym (drop_all es k last))
     ∙ before

@@ -27,6 +27,8 @@ grown_terms old new s image g h = (λ i. record {
   registers = grown_trees old new g s.registers (λ k d lt. (h.registers k d lt).belongs) i;
   bytes = λ a. same_byte a (get nat_cmp s.bytes a) refl i;
   place = s.place;
+  cells = s.memory.map;
+  heap = s.memory.heap;
 })
   where
     same_byte : (a : ℕ) (o : Option ℕ) → get nat_cmp s.bytes a ≡ o → byte_tree new image a o ≡ byte_tree old image a o

@@ -13,15 +13,15 @@ ghost use Rattle.rv_machine.specs.State.{bits as bits_of};
 ghost use Rattle.replay_law.specs.Terms.{reg_term, put_reg, put_trees, with_tree};
 ghost use Rattle.replay_law.specs.Terms as definitions;
 ghost use Rattle.replay_law.specs.Forms.{byte_term as byte_of_term};
-ghost use Rattle.path_condition.specs.Sums.{IsNormalTermOf};
-ghost use Rattle.sym_replay.specs.Replies.{reply_of, moved};
-ghost use Rattle.sym_replay.specs.States.{terms_of, register_tree, IsTermIn, IsState};
+ghost use Rattle.path_condition.specs.Sums.{IsTermOf};
+ghost use Rattle.sym_replay.specs.Replies.{reply_of, moved, IsOfHeap};
+ghost use Rattle.sym_replay.specs.States.{terms_of, register_tree, IsTermIn, IsState, HasHeapOf};
+ghost use Rattle.memory_map.specs.Heaps.{start_heap};
 
 use crate::calls::{Reply, reply_to};
 use crate::state::State;
 use elf32::Image;
-use memory_map::Memory;
-use no_memory::NoMemory;
+use memory_laws::{heap_at_start, images_are_loaded};
 use path_condition::byte_term;
 use rv_decode::{Instr, Width, decode};
 use rv_event::Event;
@@ -307,13 +307,20 @@ impl State {
     }
 
     /// What a call leaves, by its reply.
-    fn answer(&mut self, arena: &mut Arena, event: &Event, reply: Reply) -> Result<(), NoMemory>
+    fn answer(
+        &mut self,
+        arena: &mut Arena,
+        image: &Image,
+        event: &Event,
+        reply: Reply,
+    ) -> Result<(), AllocError>
         requires state { IsState arena.old self.old }
+        requires heap { HasHeapOf self.old.memory.heap (start_heap image.now.segments) }
+        requires reply { IsOfHeap self.old.memory.heap reply }
         requires fits { self.old.place + moved reply < 2 ^ 32 }
         ensures state { OnOk result (IsState arena.new self.new) }
-        ensures terms { (image : Map) →
-            OnOk result (terms_of arena.new image self.new
-            ≡ definitions.after_reply (terms_of arena.old image self.old) event.now (reply_of reply)) }
+        ensures terms { OnOk result (terms_of arena.new (start_map image.now.segments) self.new
+            ≡ definitions.after_reply (terms_of arena.old (start_map image.now.segments) self.old) event.now (reply_of reply)) }
         ensures place { OnOk result (self.new.place ≡ self.old.place + moved reply) }
         ensures keeps { Extends arena.old arena.new }
     {
@@ -323,29 +330,35 @@ impl State {
                 self.read(arena, event.call[2], count)?;
                 self.put_constant(arena, 10, count)
             }
+            Reply::Breaks(heap, address) => {
+                images_are_loaded(image);
+                heap_at_start();
+                self.move_break(heap, address);
+                self.put_constant(arena, 10, address)
+            }
             Reply::Exits(_) => Ok(()),
         }
     }
 
-    /// What a call leaves. The rights of memory are those at the start, and `n` is the input's length.
+    /// What a call leaves. The length of the input is `n`.
     fn call(
         &mut self,
         arena: &mut Arena,
-        memory: &Memory,
+        image: &Image,
         n: u32,
         event: &Event,
     ) -> Result<(), NoMemory>
         requires state { IsState arena.old self.old }
         requires place { self.old.place ≤ n }
+        requires heap { HasHeapOf self.old.memory.heap (start_heap image.now.segments) }
         ensures state { OnOk result (IsState arena.new self.new) }
-        ensures terms { (image : Map) →
-            OnOk result (terms_of arena.new image self.new
-            ≡ definitions.after_row norm memory.now n (terms_of arena.old image self.old) event.now Instr.Ecall) }
+        ensures terms { OnOk result (terms_of arena.new (start_map image.now.segments) self.new
+            ≡ definitions.after_row norm n (terms_of arena.old (start_map image.now.segments) self.old) event.now Instr.Ecall) }
         ensures place { OnOk result (self.new.place ≤ n) }
         ensures keeps { Extends arena.old arena.new }
     {
-        let reply = reply_to(memory, n - self.place, event.call);
-        self.answer(arena, event, reply)
+        let reply = reply_to(&self.memory, n - self.place, event.call);
+        self.answer(arena, image, event, reply)
     }
 
     /// What an instruction leaves.
@@ -353,18 +366,17 @@ impl State {
         &mut self,
         arena: &mut Arena,
         image: &Image,
-        memory: &Memory,
         n: u32,
         event: &Event,
         instr: Instr,
     ) -> Result<(), NoMemory>
         requires state { IsState arena.old self.old }
         requires well_formed { IsWellFormed instr }
-        requires memory { memory.now ≡ start_map image.now.segments }
+        requires heap { HasHeapOf self.old.memory.heap (start_heap image.now.segments) }
         requires place { self.old.place ≤ n }
         ensures state { OnOk result (IsState arena.new self.new) }
         ensures terms { OnOk result (terms_of arena.new (start_map image.now.segments) self.new
-            ≡ definitions.after_row norm (start_map image.now.segments) n (terms_of arena.old (start_map image.now.segments) self.old) event.now instr) }
+            ≡ definitions.after_row norm n (terms_of arena.old (start_map image.now.segments) self.old) event.now instr) }
         ensures place { OnOk result (self.new.place ≤ n) }
         ensures keeps { Extends arena.old arena.new }
     {
@@ -404,7 +416,7 @@ impl State {
                 self.put_made(arena, rd, op, a, b)
             }
             Instr::Fence { .. } => Ok(()),
-            Instr::Ecall => self.call(arena, memory, n, event),
+            Instr::Ecall => self.call(arena, image, n, event),
             Instr::Ebreak => Ok(()),
         }
     }
@@ -415,21 +427,20 @@ impl State {
         &mut self,
         arena: &mut Arena,
         image: &Image,
-        memory: &Memory,
         n: u32,
         event: &Event,
     ) -> Result<(), NoMemory>
         requires state { IsState arena.old self.old }
-        requires memory { memory.now ≡ start_map image.now.segments }
+        requires heap { HasHeapOf self.old.memory.heap (start_heap image.now.segments) }
         requires place { self.old.place ≤ n }
         ensures state { OnOk result (IsState arena.new self.new) }
         ensures terms { OnOk result (terms_of arena.new (start_map image.now.segments) self.new
-            ≡ definitions.terms_after norm (start_map image.now.segments) n (terms_of arena.old (start_map image.now.segments) self.old) event.now) }
+            ≡ definitions.terms_after norm n (terms_of arena.old (start_map image.now.segments) self.old) event.now) }
         ensures place { OnOk result (self.new.place ≤ n) }
         ensures keeps { Extends arena.old arena.new }
     {
         match decode(event.word) {
-            Some(instr) => self.follow(arena, image, memory, n, event, instr),
+            Some(instr) => self.follow(arena, image, n, event, instr),
             None => Ok(()),
         }
     }

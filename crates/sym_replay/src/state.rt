@@ -1,42 +1,52 @@
 //! Registers and memory as terms.
 
-ghost use Rattle.std.specs.Prelude.{◌≡◌, ◌<◌, ◌+◌, ◌^◌, ℕ, List, length, IfOk, OnOk};
+ghost use Rattle.std.specs.Prelude.{◌≡◌, ◌<◌, ◌≤◌, ◌+◌, ◌^◌, ◌&&◌, nat_le, nat_lt, if◌then◌else◌, true, ℕ, List, length, Some, None, IfSome, IfNone, IsSome, IfOk, OnOk};
 ghost use Rattle.term_model.specs.Tree.{Tree, Const};
 ghost use Rattle.term_model.specs.declared.Op.TheVariants.{Alu};
 ghost use Rattle.rv_word.specs.declared.AluOp.TheVariants.{Add};
 ghost use Rattle.term_arena.specs.Trees.{tree_of, Extends};
 ghost use Rattle.normal_form.specs.Norm.{norm};
-ghost use Rattle.memory_map.specs.Cells.{Map, start_map, next_address};
-ghost use Rattle.replay_law.specs.Terms.{reg_term, put_reg, put_trees, with_tree, start_terms};
+ghost use Rattle.memory_map.specs.Cells.{Map, start_map, next_address, byte_at};
+ghost use Rattle.memory_map.specs.Heaps.{heap_size, start_heap, may_break, with_break};
+ghost use Rattle.replay_law.specs.Terms.{reg_term, put_reg, put_trees, with_tree, zero_between, start_terms};
 ghost use Rattle.replay_law.specs.Terms as definitions;
-ghost use Rattle.path_condition.specs.Sums.{IsNormalTermOf};
-ghost use Rattle.sym_replay.specs.States.{terms_of, register_tree, IsTermIn, IsState};
+ghost use Rattle.path_condition.specs.Sums.{IsTermOf};
+ghost use Rattle.sym_replay.specs.States.{terms_of, register_tree, IsTermIn, IsState, HasHeapOf};
+ghost use Rattle.std.specs.Ordering.{nat_cmp};
+ghost use Rattle.std.specs.BTreeMap.{get};
 
 use crate::image;
 use elf32::Image;
-use no_memory::NoMemory;
+use memory_map::{Heap, Memory};
 use rv_word::AluOp;
 use simplify::make;
 use std::alloc::Global;
 use std::collections::BTreeMap;
 use term_arena::{Arena, Op, Term};
 
-/// Registers and memory as terms over the input, and how many bytes of the input have been read. Where memory has no term
-/// it is as at the start of the program.
+/// Registers and memory as terms over the input, how many bytes of the input have been read, and a memory whose addresses
+/// and rights are those of the run. Where there is no term for a byte it is as at the start of the program.
 #[derive(Drop)]
 pub(crate) struct State {
     pub(crate) registers: [Term; 32],
     pub(crate) bytes: BTreeMap<u32, Term>,
     pub(crate) place: u32,
+    pub(crate) memory: Memory,
 }
 
 impl State {
     /// The state at the start of a program.
-    pub(crate) fn start(alloc: Global, arena: &mut Arena) -> Result<State, NoMemory>
+    pub(crate) fn start(
+        alloc: Global,
+        arena: &mut Arena,
+        image: &Image,
+    ) -> Result<State, AllocError>
         ensures state { IfOk result (IsState arena.new) }
-        ensures terms { (image : Map) → IfOk result (λ s. terms_of arena.new image s ≡ start_terms image) }
+        ensures terms { IfOk result (λ s. terms_of arena.new (start_map image.now.segments) s ≡ start_terms image.now.segments) }
+        ensures heap { IfOk result (λ s. HasHeapOf s.memory.heap (start_heap image.now.segments)) }
         ensures keeps { Extends arena.old arena.new }
     {
+        let memory = Memory::start(alloc, image)?;
         let zero = arena.constant(0)?;
         let stack_pointer = arena.constant(0x7fff_ff00)?;
         let mut registers = [zero; 32];
@@ -45,6 +55,7 @@ impl State {
             registers,
             bytes: BTreeMap::new(alloc),
             place: 0,
+            memory,
         })
     }
 
@@ -98,8 +109,52 @@ impl State {
             ≡ record (terms_of trees image self.old) { bytes = with_tree (terms_of trees image self.old).bytes address (tree_of trees t) }) }
         ensures registers { self.new.registers ≡ self.old.registers }
         ensures place { self.new.place ≡ self.old.place }
+        ensures memory { self.new.memory ≡ self.old.memory }
     {
         self.bytes.insert(address, t)?;
         Ok(())
+    }
+
+    /// The first address from one up to another that has a term.
+    fn first_between(&self, from: u32, to: u32) -> Option<u32>
+        requires { from ≤ to }
+        ensures some { IfSome result (λ a. (from ≤ a) × (a < to) × IsSome (get nat_cmp self.now.bytes a)) }
+        ensures none { IfNone result ((q : ℕ) → from ≤ q → q < to → get nat_cmp self.now.bytes q ≡ None) }
+    {
+        match self.bytes.range(from..to).next() {
+            Some((address, _)) => Some(*address),
+            None => None,
+        }
+    }
+
+    /// Takes away the terms from an address up to another.
+    fn clear(&mut self, from: u32, to: u32)
+        requires { from ≤ to }
+        ensures bytes { (q : ℕ) → get nat_cmp self.new.bytes q ≡ (if nat_le from q && nat_lt q to then None else get nat_cmp self.old.bytes q) }
+        ensures registers { self.new.registers ≡ self.old.registers }
+        ensures place { self.new.place ≡ self.old.place }
+        ensures memory { self.new.memory ≡ self.old.memory }
+    {
+        while let Some(address) = self.first_between(from, to) {
+            self.bytes.remove(&address);
+        }
+    }
+
+    /// The heap's break moves to an address. The bytes that it moves past are zeros.
+    pub(crate) fn move_break(&mut self, heap: Heap, address: u32)
+        requires heap { self.old.memory.heap ≡ Some heap }
+        requires place { may_break heap address ≡ true }
+        requires from { heap.start ≤ heap.brk }
+        requires most { heap.brk ≤ heap.start + heap_size }
+        ensures state { (trees : List Tree) → IsState trees self.old → IsState trees self.new }
+        ensures terms { (trees : List Tree) (image : Map) →
+            ((q : ℕ) → heap.start ≤ q → q < heap.start + heap_size → byte_at image q ≡ 0) →
+            terms_of trees image self.new
+            ≡ record (terms_of trees image self.old) { bytes = zero_between (terms_of trees image self.old).bytes heap.brk address; cells = with_break self.old.memory.map heap.brk address; heap = Some (record { start = heap.start; brk = address }) } }
+        ensures place { self.new.place ≡ self.old.place }
+        ensures heap { self.new.memory.heap ≡ Some (record { start = heap.start; brk = address }) }
+    {
+        self.clear(heap.brk.min(address), heap.brk.max(address));
+        self.memory.brk(address);
     }
 }

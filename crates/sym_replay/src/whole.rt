@@ -14,8 +14,6 @@ ghost use Rattle.trace_conditions.specs.Conditions.{conditions_of};
 use crate::pins::add_event;
 use crate::state::State;
 use elf32::Image;
-use memory_map::Memory;
-use no_memory::NoMemory;
 use path_condition::Conditions;
 use rv_event::{End, Event, Transcript};
 use std::alloc::Global;
@@ -67,15 +65,14 @@ pub fn replay(
 {
     conditions_hold_of_the_class();
     conditions_are_proper();
-    let memory = Memory::start(alloc, image)?;
-    let mut state = State::start(alloc, arena)?;
+    let mut state = State::start(alloc, arena, image)?;
     let mut conditions = Conditions::new(alloc);
     let events = transcript.events.as_slice();
     for i in 0..events.len() {
         let event = event_at(events, i);
         let shown = shown_after(events, i, transcript.end);
         add_event(&mut conditions, arena, image, &state, &event, shown)?;
-        state.follow_event(arena, image, &memory, transcript.n, &event)?;
+        state.follow_event(arena, image, transcript.n, &event)?;
     }
     Ok(conditions)
 }

@@ -9,11 +9,13 @@ use Rattle.memory_map.specs.Cells.{start_map}
 use Rattle.rv_machine.specs.Class.{in_class}
 use Rattle.replay_law.specs.Crash.{AreProper}
 use Rattle.replay_law.specs.Forms.{with_conditions}
-use Rattle.replay_law.specs.Terms.{terms_after}
+use Rattle.replay_law.specs.Terms.{Terms, terms_after}
+use Rattle.memory_map.specs.Heaps.{start_heap}
+use Rattle.sym_replay.proofs.HeapLemmas.{event_heap}
 use Rattle.replay_law.specs.Follow.{conditions_of, shown_next}
 use Rattle.trace_conditions.specs.Conditions as whole
 use Rattle.path_condition.proofs.ListLemmas.{grown_trees, grown_belong}
-use Rattle.sym_replay.specs.States.{terms_of}
+use Rattle.sym_replay.specs.States.{terms_of, HasHeapOf}
 use Rattle.sym_replay.proofs.StateLemmas.{grown_state, grown_terms, further}
 use Rattle.sym_replay.proofs.RunLemmas.{at_start, next_event, at_end}
 use Rattle.sym_replay.proofs.whole.replay.Goals as goal
@@ -21,14 +23,15 @@ use Rattle.sym_replay.proofs.whole.replay.Goals as goal
 pub loop-i-init : goal.loop-i-init
 loop-i-init c =
     let image = start_map c.args.image.now.segments in
-    let arena = c.start-2.new.arena in
+    let arena = c.start.new.arena in
     let program : Program = program_of c.args.image.now in
     let none : c.new-conditions.result ≡ [] = c.new-conditions.ensures.empty in
-    let start = c.in_ok-state.ensures.terms image in
+    let start = c.in_ok-state.ensures.terms in
     let place : c.in_ok-state.state.place ≡ 0 = (λ i. (start i).place) in (
       λ k d lt. absurd (let h : k < 0 = subst (λ (ts : List ℕ). k < length ts) none lt in omega arith),
       c.in_ok-state.ensures.state,
       omega arith,
+      c.in_ok-state.ensures.heap,
       c.in_ok-state.ensures.keeps,
       at_start program c.args.transcript.now (trees_of arena c.new-conditions.result) (terms_of arena image c.in_ok-state.state) (ap (trees_of arena) none) start,
     )
@@ -50,12 +53,13 @@ loop-i-preserved c =
     let shown : c.shown_after-shown.result ≡ shown_next (drop (c.loop-i.i + 1) run.events) run.end = c.shown_after-shown.ensures ∙ ap (λ es. shown_next (drop (c.loop-i.i + 1) es) run.end) c.as_slice-events.ensures in
     let listed = trees_of c.loop-i.arena c.loop-i.conditions in
     let new = later ∙ c.in_ok-add_event.ensures.trees ∙ ap (λ v. with_conditions listed (conditions_of norm s e v)) shown in
-    let after = c.in_ok-follow_event.ensures.terms ∙ (λ i. terms_after norm image run.n (grown i) e) in (
+    let after = c.in_ok-follow_event.ensures.terms ∙ (λ i. terms_after norm run.n (grown i) e) in (
       grown_belong c.add_event.new.arena c.follow_event.new.arena keeps c.add_event.new.conditions c.in_ok-add_event.ensures.listed,
       c.in_ok-follow_event.ensures.state,
       c.in_ok-follow_event.ensures.place,
-      further c.args.arena.now c.loop-i.arena c.follow_event.new.arena c.loop-i.invariant.3 (further c.loop-i.arena c.add_event.new.arena c.follow_event.new.arena c.in_ok-add_event.ensures.keeps keeps),
-      next_event image run.n run.events run.end (whole.conditions_of program run) c.loop-i.i e item listed (trees_of c.follow_event.new.arena c.add_event.new.conditions) s (terms_of c.follow_event.new.arena image c.follow_event.new.self) c.loop-i.invariant.4 new after,
+      subst (λ (t : Terms). HasHeapOf t.heap (start_heap c.args.image.now.segments)) (sym after) (event_heap run.n s e (start_heap c.args.image.now.segments) c.loop-i.invariant.3),
+      further c.args.arena.now c.loop-i.arena c.follow_event.new.arena c.loop-i.invariant.4 (further c.loop-i.arena c.add_event.new.arena c.follow_event.new.arena c.in_ok-add_event.ensures.keeps keeps),
+      next_event run.n run.events run.end (whole.conditions_of program run) c.loop-i.i e item listed (trees_of c.follow_event.new.arena c.add_event.new.conditions) s (terms_of c.follow_event.new.arena image c.follow_event.new.self) c.loop-i.invariant.5 new after,
     )
 
 pub returns-clause-trees : goal.returns-clause-trees
@@ -65,7 +69,7 @@ returns-clause-trees c =
     let program : Program = program_of c.args.image.now in
     let same : length c.as_slice-events.result.now ≡ length run.events = ap length c.as_slice-events.ensures in
     let last : c.loop-i.i ≡ length run.events = omega (arith, same, c.loop-i-test.false, c.loop-i.auto.i-end) in
-    at_end image run.n run.events run.end (whole.conditions_of program run) (trees_of c.loop-i.arena c.loop-i.conditions) (terms_of c.loop-i.arena image c.loop-i.state) c.loop-i.i last c.loop-i.invariant.4
+    at_end run.n run.events run.end (whole.conditions_of program run) (trees_of c.loop-i.arena c.loop-i.conditions) (terms_of c.loop-i.arena image c.loop-i.state) c.loop-i.i last c.loop-i.invariant.5
 
 pub returns-clause-class : goal.returns-clause-class
 returns-clause-class c limit x y p k i =

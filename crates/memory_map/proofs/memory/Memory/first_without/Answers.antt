@@ -8,14 +8,14 @@ returns-then-run-eq0 c = sym (c.loop-left.invariant ∙ without_here _ _ _ _ (om
 pub returns-then-run-left : goal.returns-then-run-left
 returns-then-run-left c =
     sym (c.loop-left.invariant
-    ∙ without_skips c.loop-left.left c.loop-left.left 0 c.loop-left.at ((c.loop-left.at + c.loop-left.left) % 2 ^ 32) c.args.right c.args.self.now
+    ∙ without_skips c.loop-left.left c.loop-left.left 0 c.loop-left.at ((c.loop-left.at + c.loop-left.left) % 2 ^ 32) c.args.right c.args.self.now.map
     (λ i l. c.run-run.ensures.allowed i (omega arith)) (omega arith) (omega arith) (omega (arith, c.run-run.ensures.within)) refl
     ∙ without_end _ _ 0 _ refl)
 
 pub loop-left-preserved : goal.loop-left-preserved
 loop-left-preserved c =
     c.loop-left.invariant
-    ∙ without_skips (length c.run-run.result.now) c.loop-left.left _ c.loop-left.at _ c.args.right c.args.self.now c.run-run.ensures.allowed (omega arith) (omega arith) c.run-run.ensures.within refl
+    ∙ without_skips (length c.run-run.result.now) c.loop-left.left _ c.loop-left.at _ c.args.right c.args.self.now.map c.run-run.ensures.allowed (omega arith) (omega arith) c.run-run.ensures.within refl
 
 pub returns : goal.returns
 returns c = sym (c.loop-left.invariant ∙ without_end _ _ _ _ (omega arith))

@@ -16,7 +16,7 @@ missed None ps m a e h = ap (λ n. finmap.get n a) (sym e) ∙ get_map ps a ∙ 
 
 pub returns : goal.returns
 returns c =
-    let ps = c.self.inside.stack ∷ c.self.inside.segments.items in
-    let e : map_of ps ≡ c.args.self.now = c.self.view_is in
+    let ps = c.self.inside.stack ∷ c.self.inside.regions.items in
+    let e : map_of ps ≡ c.args.self.now.map = (ap (λ s. s.map) c.self.view_is) in
     let h = rw c.deref.ensures.value at c.region_of.ensures in
-    record { some = found c.region_of.result ps c.args.self.now c.args.address e h.some; none = missed c.region_of.result ps c.args.self.now c.args.address e h.none }
+    record { some = found c.region_of.result ps c.args.self.now.map c.args.address e h.some; none = missed c.region_of.result ps c.args.self.now.map c.args.address e h.none }

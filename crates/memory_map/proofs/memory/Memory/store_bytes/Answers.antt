@@ -9,4 +9,4 @@ returns-then-write_within-clause-answer c =
     let t = c.if-write_within.true in
     let may = OnTrue_at t c.write_within.ensures.written in
     let within = OnTrue_at t c.write_within.ensures.within in
-    answered _ tt tt (range_can (length c.args.bytes.now) write c.args.address c.args.self.now may (omega arith) within) refl
+    answered _ tt tt (range_can (length c.args.bytes.now) write c.args.address c.args.self.now.map may (omega arith) within) refl

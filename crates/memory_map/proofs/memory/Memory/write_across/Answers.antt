@@ -7,13 +7,15 @@ use Rattle.memory_map.proofs.memory.Memory.write_across.Goals as goal
 
 pub loop-byte-preserved : goal.loop-byte-preserved
 loop-byte-preserved c =
-    let m = c.loop-byte.self in
+    let m = c.loop-byte.self.map in
     let at = c.loop-byte.at in
     let i = c.loop-byte.byte-index in
     let bs = c.args.bytes.now in
     let may : can write (finmap.get m at) ≡ true = room_first (length bs - i) at write m (omega arith) c.loop-byte.invariant.room in
-    let new : c.store.new.self ≡ with_byte m at (get_or bs i 0) (finmap.get m at) = rw (c.store.ensures.stored, may) at c.store.ensures.after in
+    let after = rw (c.store.ensures.stored, may) at c.store.ensures.after in
+    let new : c.store.new.self.map ≡ with_byte m at (get_or bs i 0) (finmap.get m at) = (λ i. (after i).map) in
     record {
+      heap = (λ i. (after i).heap) ∙ c.loop-byte.invariant.heap;
       room =
           ap (λ (n : Map). first_without write n ((at + 1) % 2 ^ 32) (length bs - (i + 1))) new
           ∙ all_kept (length bs - (i + 1)) at (get_or bs i 0) ((at + 1) % 2 ^ 32) write m
@@ -22,4 +24,7 @@ loop-byte-preserved c =
     }
 
 pub returns : goal.returns
-returns c = sym (c.loop-byte.invariant.rest ∙ placed_none _ _ _ (drop_of_length-le c.args.bytes.now (omega arith)))
+returns c =
+    let map = sym (c.loop-byte.invariant.rest ∙ placed_none _ _ _ (drop_of_length-le c.args.bytes.now (omega arith))) in
+    let heap = c.loop-byte.invariant.heap in
+    (λ i. record { map = map i; heap = heap i })

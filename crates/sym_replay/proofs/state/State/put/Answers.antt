@@ -13,4 +13,6 @@ returns-then-register-ne0-clause-terms c trees image =
       registers = put_registers trees c.args.self.now.registers c.args.register c.args.t no i;
       bytes = λ a. byte_tree trees image a (get nat_cmp c.args.self.now.bytes a);
       place = c.args.self.now.place;
+      cells = c.args.self.now.memory.map;
+      heap = c.args.self.now.memory.heap;
     })
