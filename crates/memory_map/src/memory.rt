@@ -289,7 +289,7 @@ impl Memory {
     /// to its size, the stack, whose 1,048,576 zeros from 7ff00000 on may be read and written, and a heap
     /// without a byte, where the program has one. Memory for all the heap's bytes is taken here. The one
     /// error is want of memory.
-    pub fn start(alloc: Global, image: &Image) -> Result<Memory, AllocError>
+    pub fn start(alloc: Global, image: &Image) -> Result<Memory, NoMemory>
         ensures map { IfOk result (λ m. m.map ≡ start_map image.now.segments) }
         ensures heap { IfOk result (λ m. m.heap ≡ start_heap image.now.segments) }
     {
@@ -338,7 +338,7 @@ fn regions_for(
     alloc: Global,
     segments: &[Segment],
     heap: Option<Heap>,
-) -> Result<Vec<Region>, AllocError>
+) -> Result<Vec<Region>, NoMemory>
     requires { AreSized segments.now }
     ensures { IfOk result (λ v. v.items ≡ map part_of segments.now ++ heap_parts heap) }
 {

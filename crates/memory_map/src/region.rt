@@ -5,7 +5,8 @@ ghost use Rattle.memory_map.specs.Cells.{write};
 ghost use Rattle.std.specs.Vec.{vec_capacity};
 ghost use Rattle.memory_map.specs.Layout.{holds, allows, overwritten, resized, end_of};
 
-use std::alloc::{AllocError, Global};
+use no_memory::NoMemory;
+use std::alloc::Global;
 use std::marker::Model;
 
 /// The right to execute, PF_X of the System V gABI's "Program Header".
@@ -60,7 +61,7 @@ impl Region {
         base: u32,
         rights: u32,
         room: usize,
-    ) -> Result<Self, AllocError>
+    ) -> Result<Self, NoMemory>
         ensures { IfOk result (λ r. r ≡ record { base = base; rights = rights; bytes = []; room = room }) }
     {
         let bytes = Vec::with_capacity(alloc, room)?;

@@ -13,7 +13,7 @@ ghost use Rattle.rv_machine.specs.State.{bits as bits_of};
 ghost use Rattle.replay_law.specs.Terms.{reg_term, put_reg, put_trees, with_tree};
 ghost use Rattle.replay_law.specs.Terms as definitions;
 ghost use Rattle.replay_law.specs.Forms.{byte_term as byte_of_term};
-ghost use Rattle.path_condition.specs.Sums.{IsTermOf};
+ghost use Rattle.path_condition.specs.Sums.{IsNormalTermOf};
 ghost use Rattle.sym_replay.specs.Replies.{reply_of, moved, IsOfHeap};
 ghost use Rattle.sym_replay.specs.States.{terms_of, register_tree, IsTermIn, IsState, HasHeapOf};
 ghost use Rattle.memory_map.specs.Heaps.{start_heap};
@@ -313,7 +313,7 @@ impl State {
         image: &Image,
         event: &Event,
         reply: Reply,
-    ) -> Result<(), AllocError>
+    ) -> Result<(), NoMemory>
         requires state { IsState arena.old self.old }
         requires heap { HasHeapOf self.old.memory.heap (start_heap image.now.segments) }
         requires reply { IsOfHeap self.old.memory.heap reply }

@@ -10,7 +10,7 @@ ghost use Rattle.memory_map.specs.Cells.{Map, start_map, next_address, byte_at};
 ghost use Rattle.memory_map.specs.Heaps.{heap_size, start_heap, may_break, with_break};
 ghost use Rattle.replay_law.specs.Terms.{reg_term, put_reg, put_trees, with_tree, zero_between, start_terms};
 ghost use Rattle.replay_law.specs.Terms as definitions;
-ghost use Rattle.path_condition.specs.Sums.{IsTermOf};
+ghost use Rattle.path_condition.specs.Sums.{IsNormalTermOf};
 ghost use Rattle.sym_replay.specs.States.{terms_of, register_tree, IsTermIn, IsState, HasHeapOf};
 ghost use Rattle.std.specs.Ordering.{nat_cmp};
 ghost use Rattle.std.specs.BTreeMap.{get};
@@ -40,7 +40,7 @@ impl State {
         alloc: Global,
         arena: &mut Arena,
         image: &Image,
-    ) -> Result<State, AllocError>
+    ) -> Result<State, NoMemory>
         ensures state { IfOk result (IsState arena.new) }
         ensures terms { IfOk result (λ s. terms_of arena.new (start_map image.now.segments) s ≡ start_terms image.now.segments) }
         ensures heap { IfOk result (λ s. HasHeapOf s.memory.heap (start_heap image.now.segments)) }
