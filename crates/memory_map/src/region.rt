@@ -56,12 +56,7 @@ impl Region {
     }
 
     /// A region without bytes from an address up, with memory for so many.
-    pub fn with_room(
-        alloc: Global,
-        base: u32,
-        rights: u32,
-        room: usize,
-    ) -> Result<Self, NoMemory>
+    pub fn with_room(alloc: Global, base: u32, rights: u32, room: usize) -> Result<Self, NoMemory>
         ensures { IfOk result (λ r. r ≡ record { base = base; rights = rights; bytes = []; room = room }) }
     {
         let bytes = Vec::with_capacity(alloc, room)?;

@@ -22,6 +22,7 @@ use crate::calls::{Reply, reply_to};
 use crate::state::State;
 use elf32::Image;
 use memory_laws::{heap_at_start, images_are_loaded};
+use no_memory::NoMemory;
 use path_condition::byte_term;
 use rv_decode::{Instr, Width, decode};
 use rv_event::Event;

@@ -18,6 +18,7 @@ ghost use Rattle.std.specs.BTreeMap.{get};
 use crate::image;
 use elf32::Image;
 use memory_map::{Heap, Memory};
+use no_memory::NoMemory;
 use rv_word::AluOp;
 use simplify::make;
 use std::alloc::Global;
@@ -36,11 +37,7 @@ pub(crate) struct State {
 
 impl State {
     /// The state at the start of a program.
-    pub(crate) fn start(
-        alloc: Global,
-        arena: &mut Arena,
-        image: &Image,
-    ) -> Result<State, NoMemory>
+    pub(crate) fn start(alloc: Global, arena: &mut Arena, image: &Image) -> Result<State, NoMemory>
         ensures state { IfOk result (IsState arena.new) }
         ensures terms { IfOk result (λ s. terms_of arena.new (start_map image.now.segments) s ≡ start_terms image.now.segments) }
         ensures heap { IfOk result (λ s. HasHeapOf s.memory.heap (start_heap image.now.segments)) }

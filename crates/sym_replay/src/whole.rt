@@ -14,6 +14,7 @@ ghost use Rattle.trace_conditions.specs.Conditions.{conditions_of};
 use crate::pins::add_event;
 use crate::state::State;
 use elf32::Image;
+use no_memory::NoMemory;
 use path_condition::Conditions;
 use rv_event::{End, Event, Transcript};
 use std::alloc::Global;

@@ -4,11 +4,11 @@ use Rattle.sym_replay.proofs.state.State.clear.Goals as goal
 
 pub loop-address-preserved : goal.loop-address-preserved
 loop-address-preserved c = (
-      λ q. one_cleared c.loop-address.self.bytes c.remove.new.self c.args.from c.args.to c.in-Some.address c.in-Some.ensures.some.0 c.in-Some.ensures.some.1 c.remove.ensures.updates q ∙ c.loop-address.invariant.0 q,
-      c.loop-address.invariant.1,
-      c.loop-address.invariant.2,
-      c.loop-address.invariant.3,
-    )
+  λ q. one_cleared c.loop-address.self.bytes c.remove.new.self c.args.from c.args.to c.in-Some.address c.in-Some.ensures.some.0 c.in-Some.ensures.some.1 c.remove.ensures.updates q ∙ c.loop-address.invariant.0 q,
+  c.loop-address.invariant.1,
+  c.loop-address.invariant.2,
+  c.loop-address.invariant.3,
+)
 
 pub returns-clause-bytes : goal.returns-clause-bytes
 returns-clause-bytes c q = none_left c.loop-address.self.bytes c.args.from c.args.to q c.in_default.ensures.none ∙ c.loop-address.invariant.0 q
