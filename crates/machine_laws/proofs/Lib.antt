@@ -3,3 +3,4 @@ pub mod Words
 pub mod Bytes
 pub mod Steps
 pub mod Starts
+pub mod Exits
