@@ -291,3 +291,32 @@ pub const BREAK_AT_THE_END: [u32; 7] = [
     0x0000_0073,
     0x0005_0023,
 ];
+
+/// Stores into the last of sixteen bytes of heap, gives them back, and loads that byte.
+pub const FREED_BYTE: [u32; 8] = [
+    0x0d60_0893,
+    0x0001_1537,
+    0x0105_0513,
+    0x0000_0073,
+    0xff15_0fa3,
+    0xff05_0513,
+    0x0000_0073,
+    0x00f5_4283,
+];
+
+/// Asks for the break and then for sixteen bytes of heap, stores into the last, and then past the break.
+pub const STORE_PAST_SIXTEEN: [u32; 7] = [
+    0x0d60_0893,
+    0x0000_0513,
+    0x0000_0073,
+    0x0105_0513,
+    0x0000_0073,
+    0xfe05_0fa3,
+    0x0005_0023,
+];
+
+/// Exits with 127.
+pub const LAST_EXIT: [u32; 3] = [0x07f0_0513, 0x05e0_0893, 0x0000_0073];
+
+/// Exits with 128.
+pub const FIRST_ABORT: [u32; 3] = [0x0800_0513, 0x05e0_0893, 0x0000_0073];

@@ -1,7 +1,8 @@
 use crate::programs::{
-    ABORT, ACCESSES, BRANCHES, BREAK_AT_THE_END, BREAK_BACK_AND_FORTH, HEAP_OF_SIXTEEN, JUMP_BETWEEN_WORDS, NO_HEAP_YET, JUMPS, LOAD_ACROSS_THE_STACK, READ_IN_PARTS,
-    READ_OTHER_DESCRIPTOR, RUN_WHAT_IT_STORED, STORE_ACROSS_THE_STACK, UNKNOWN_CALL, WRAP_AROUND,
-    WRITE_PAST_MEMORY, WRITE_X0,
+    ABORT, ACCESSES, BRANCHES, BREAK_AT_THE_END, BREAK_BACK_AND_FORTH, FIRST_ABORT, FREED_BYTE,
+    HEAP_OF_SIXTEEN, JUMP_BETWEEN_WORDS, JUMPS, LAST_EXIT, LOAD_ACROSS_THE_STACK, NO_HEAP_YET,
+    READ_IN_PARTS, READ_OTHER_DESCRIPTOR, RUN_WHAT_IT_STORED, STORE_ACROSS_THE_STACK,
+    STORE_PAST_SIXTEEN, UNKNOWN_CALL, WRAP_AROUND, WRITE_PAST_MEMORY, WRITE_X0,
 };
 use elf32::Image;
 use rv_event::{End, Event, EventKind, Trap, TrapKind};
@@ -117,7 +118,10 @@ fn answers_calls(rt: HostRuntime) -> Result<(), Fail> {
 #[test]
 fn aborts(rt: HostRuntime) -> Result<(), Fail> {
     let end = trap(TrapKind::Abort, 0x1_0008, 200);
-    expect(&rt, rt.alloc(), &ABORT, &[], 3, end)
+    expect(&rt, rt.alloc(), &ABORT, &[], 3, end)?;
+    let end = trap(TrapKind::Abort, 0x1_0008, 128);
+    expect(&rt, rt.alloc(), &FIRST_ABORT, &[], 3, end)?;
+    expect(&rt, rt.alloc(), &LAST_EXIT, &[], 3, End::Exit(127))
 }
 
 #[test]
@@ -134,7 +138,52 @@ fn gets_a_heap(rt: HostRuntime) -> Result<(), Fail> {
 
 #[test]
 fn heap_bytes_come_back_as_zeros(rt: HostRuntime) -> Result<(), Fail> {
-    expect(&rt, rt.alloc(), &BREAK_BACK_AND_FORTH, &[], 12, End::Exit(0))
+    expect(
+        &rt,
+        rt.alloc(),
+        &BREAK_BACK_AND_FORTH,
+        &[],
+        12,
+        End::Exit(0),
+    )
+}
+
+#[test]
+fn freed_heap_bytes_are_gone(rt: HostRuntime) -> Result<(), Fail> {
+    let end = trap(TrapKind::LoadFault, 0x1_001c, 0x1_100f);
+    expect(&rt, rt.alloc(), &FREED_BYTE, &[], 8, end)
+}
+
+/// Where the first address past sixteen bytes of heap is, in a program that has so many bytes from a base
+/// up beside its code.
+fn has_heap(rt: &impl Abort, alloc: Global, base: u32, size: u32, past: u32) -> Result<(), Fail> {
+    let image = program_image(alloc, &STORE_PAST_SIXTEEN, &[zeros(alloc, base, size, 6)])?;
+    let end = trap(TrapKind::StoreFault, 0x1_0018, past);
+    ends(rt, alloc, &image, &[], 7, end)
+}
+
+/// Such a program has no heap: the store is past -38 and 16.
+fn has_no_heap(rt: &impl Abort, alloc: Global, base: u32, size: u32) -> Result<(), Fail> {
+    let image = program_image(alloc, &STORE_PAST_SIXTEEN, &[zeros(alloc, base, size, 6)])?;
+    let end = trap(TrapKind::StoreFault, 0x1_0014, 0xffff_ffd9);
+    ends(rt, alloc, &image, &[], 6, end)
+}
+
+#[test]
+fn heap_lies_past_the_last_segment(rt: HostRuntime) -> Result<(), Fail> {
+    let alloc = rt.alloc();
+    has_heap(&rt, alloc, 0x2_0001, 0x0fff, 0x2_1010)?;
+    has_heap(&rt, alloc, 0x2_0001, 0x1000, 0x2_2010)
+}
+
+#[test]
+fn heap_ends_below_the_stack_or_lies_above_it(rt: HostRuntime) -> Result<(), Fail> {
+    let alloc = rt.alloc();
+    has_heap(&rt, alloc, 0x7eef_f000, 0x1000, 0x7ef0_0010)?;
+    has_no_heap(&rt, alloc, 0x7eef_f000, 0x1001)?;
+    has_heap(&rt, alloc, 0x8000_0000, 0x1000, 0x8000_1010)?;
+    has_heap(&rt, alloc, 0xfeff_e000, 0x1000, 0xfeff_f010)?;
+    has_no_heap(&rt, alloc, 0xfeff_e000, 0x1001)
 }
 
 #[test]

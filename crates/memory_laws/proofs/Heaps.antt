@@ -1,5 +1,5 @@
 -- The heap at the start.
-use Rattle.std.proofs.Common.{◌≡◌, ℕ, ◌+◌, ◌-◌, ◌<◌, ◌≤◌, ◌^◌, List, length, get_or, Option, Some, None, IfSome, inl, inr, refl, sym, ap, ◌∙◌, subst, arith}
+use Rattle.std.proofs.Common.{◌≡◌, ℕ, ◌+◌, ◌-◌, ◌<◌, ◌≤◌, ◌^◌, List, length, get_or, Option, Some, None, IfSome, inl, inr, ap, subst, arith}
 use Rattle.std.proofs.lemmas.Bool.{cases_lt}
 use Rattle.std.proofs.lemmas.List.{get_or_default}
 use Rattle.std.specs.FinMap.{get}
@@ -9,7 +9,7 @@ use Rattle.memory_map.specs.Heaps.{heap_size, start_heap}
 use Rattle.memory_map.specs.declared.heap.Heap.{Heap}
 use Rattle.memory_map.proofs.Starts.{no_segment}
 use Rattle.memory_map.proofs.HeapStarts.{IsPast, heap_past_last}
-use Rattle.memory_laws.specs.Starts.{AreLoaded, IsIn, IsOnStack}
+use Rattle.memory_laws.specs.Starts.{AreLoaded, IsIn}
 use Rattle.memory_laws.proofs.Starts.{elsewhere_is}
 
 past : (ss : List Segment) (h : Heap) → start_heap ss ≡ Some h → IsPast ss h

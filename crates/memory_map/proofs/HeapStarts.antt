@@ -1,5 +1,5 @@
 -- The parts at the start, with that of the heap.
-use Rattle.std.proofs.Common.{◌≡◌, ℕ, suc, ◌+◌, ◌-◌, ◌<◌, ◌≤◌, ◌^◌, ◌⊎◌, ◌&&◌, ◌||◌, nat_le, nat_lt, Bool, true, false, cond, List, [], ◌∷◌, ◌++◌, Option, Some, None, IfSome, length, get_or, map, inl, inr, refl, sym, ap, ◌∙◌, subst, arith, length-append}
+use Rattle.std.proofs.Common.{◌≡◌, ℕ, ◌+◌, ◌-◌, ◌<◌, ◌≤◌, ◌^◌, ◌⊎◌, ◌&&◌, ◌||◌, nat_le, nat_lt, Bool, true, false, cond, List, [], ◌∷◌, ◌++◌, Option, Some, None, IfSome, length, get_or, map, inl, inr, refl, sym, ap, ◌∙◌, subst, arith, length-append}
 use Rattle.std.specs.List.{slice_get}
 use Rattle.std.specs.FinMap.{from_entries}
 use Rattle.std.proofs.lemmas.Bool.{cases_lt}
@@ -9,9 +9,9 @@ use Rattle.elf32.specs.declared.segments.Segment.{Segment}
 use Rattle.elf32.specs.Segments.{AreApart, AreOffStack, AreSized}
 use Rattle.memory_map.specs.Part.{Part}
 use Rattle.memory_map.specs.Cells.{cells_from, stack_cells, start_map}
-use Rattle.memory_map.specs.Heaps.{heap_size, page_up, heap_from, heap_past, start_heap}
+use Rattle.memory_map.specs.Heaps.{heap_size, page_up, heap_past, start_heap}
 use Rattle.memory_map.specs.declared.heap.Heap.{Heap}
-use Rattle.memory_map.specs.Layout.{map_of, entries_of, part_of, heap_parts, end_of, IsLaidOut, IsHeapPart, IsHeap, HasHeap}
+use Rattle.memory_map.specs.Layout.{map_of, entries_of, part_of, heap_parts, end_of, IsLaidOut, IsHeapPart, HasHeap}
 use Rattle.memory_map.proofs.Maps.{start_is}
 use Rattle.memory_map.proofs.Starts.{laid_out_start, at_place, no_segment}
 

@@ -1,6 +1,5 @@
 -- Memory with a heap: the bytes that a program asks for by moving the break.
 use Rattle.std.specs.Prelude.{ℕ, zero, suc, ◌+◌, ◌-◌, ◌*◌, ◌/◌, ◌^◌, nat_le, nat_lt, ◌&&◌, ◌||◌, Bool, List, length, Option, Some, None, if◌then◌else◌, refl}
-use Rattle.std.specs.Ordering.{nat_cmp}
 use Rattle.std.specs.FinMap as finmap
 use Rattle.std.specs.FinMap.{insert, remove}
 use Rattle.std.specs.List.{slice_get}

@@ -4,7 +4,7 @@ use Rattle.std.specs.FinMap.{get}
 use Rattle.term_model.specs.Tree.{Tree}
 use Rattle.term_model.specs.Value.{val}
 use Rattle.term_model.specs.Words.{AreBytes}
-use Rattle.memory_map.specs.Cells.{Map, Cell}
+use Rattle.memory_map.specs.Cells.{Cell}
 use Rattle.rv_machine.specs.State.{State}
 use Rattle.replay_law.specs.Terms.{Terms, reg_term}
 

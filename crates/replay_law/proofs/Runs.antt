@@ -6,7 +6,7 @@ use Rattle.rv_event.specs.declared.event.Event.{Event}
 use Rattle.rv_event.specs.declared.event.End.TheVariants as ends
 use Rattle.term_model.specs.Tree.{Tree, Const}
 use Rattle.term_model.specs.Value.{val}
-use Rattle.memory_map.specs.Cells.{Map, Cell, byte_at, byte_of_cell, start_map}
+use Rattle.memory_map.specs.Cells.{Cell, byte_at, byte_of_cell, start_map}
 use Rattle.memory_map.proofs.HeapStarts.{start_break}
 use Rattle.rv_machine.specs.State.{State, Next, Goes, Ends, start, start_registers}
 use Rattle.rv_machine.specs.Effects.{step}

@@ -11,7 +11,7 @@ use Rattle.term_model.specs.Words.{AreBytes}
 use Rattle.term_model.specs.Conditions.{Hold}
 use Rattle.term_model.proofs.HoldLemmas.{hold_none, hold_four, hold_both, hold_left, hold_right}
 use Rattle.term_model.proofs.ByteLemmas.{bytes_everywhere}
-use Rattle.memory_map.specs.Cells.{Map, execute, first_without, word_at, next_address}
+use Rattle.memory_map.specs.Cells.{execute, first_without, word_at, next_address}
 use Rattle.rv_machine.specs.State.{State, no_call}
 use Rattle.rv_machine.specs.Effects.{executed, after_fetch, step, effect}
 use Rattle.input_laws.specs.Inputs.{IsInput}

@@ -10,7 +10,6 @@ use Rattle.term_model.specs.Value.{val}
 use Rattle.term_model.specs.Words.{AreBytes}
 use Rattle.term_model.specs.Conditions.{Hold}
 use Rattle.term_model.proofs.HoldLemmas.{hold_none, hold_both, hold_left, hold_right}
-use Rattle.memory_map.specs.Cells.{Map}
 use Rattle.rv_machine.specs.State.{State, Goes, reg, write_reg, at, following, bits}
 use Rattle.rv_machine.specs.Effects.{even, jump, taken, address_of, effect}
 use Rattle.replay_law.specs.Making.{Making, IsMaker}

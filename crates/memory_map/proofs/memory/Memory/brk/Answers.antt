@@ -1,6 +1,6 @@
-use Rattle.std.proofs.Common.{◌≡◌, ◌-◌, length, ◌∷◌, true, sym, ap, ◌∙◌, arith}
+use Rattle.std.proofs.Common.{◌≡◌, ◌-◌, true, sym, ap, ◌∙◌, arith}
 use Rattle.memory_map.specs.Heaps.{may_break}
-use Rattle.memory_map.proofs.Heaps.{HasMoved, has_moved, break_after}
+use Rattle.memory_map.proofs.Heaps.{has_moved, break_after}
 use Rattle.memory_map.proofs.memory.Memory.brk.Goals as goal
 
 pub invariant_of-self : goal.invariant_of-self
