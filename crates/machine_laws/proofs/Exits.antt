@@ -1,5 +1,5 @@
 -- A run that ends by an exit ends with a code below 128.
-use Rattle.std.proofs.Common.{◌≡◌, ℕ, zero, suc, ◌%◌, ◌^◌, ◌+◌, ◌-◌, ◌<◌, ◌==◌, nat_lt, List, length, Bool, true, false, cond, Option, Some, None, Unit, tt, refl, subst, arith}
+use Rattle.std.proofs.Common.{◌≡◌, ℕ, zero, suc, ◌%◌, ◌^◌, ◌+◌, ◌-◌, ◌<◌, ◌==◌, nat_lt, List, length, Bool, true, false, cond, Option, Some, None, refl, subst, arith}
 use Rattle.std.proofs.lemmas.Bool.Decides.{nat_tests}
 use Rattle.elf32.specs.Loads.{Program}
 use Rattle.memory_map.specs.Cells.{first_without, read, write, execute, word_at}

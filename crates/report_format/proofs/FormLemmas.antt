@@ -20,7 +20,7 @@ use Rattle.input_laws.specs.Inputs.{bytes}
 use Rattle.input_laws.specs.Sets.{size}
 use Rattle.byte_sets.specs.ByteSet.{set_byte, set_bytes}
 use Rattle.rv_event.specs.declared.event.TrapKind.{TrapKind}
-use Rattle.rv_event.specs.declared.event.TrapKind.TheVariants.{Illegal, FetchFault, MisalignedJump, LoadFault, StoreFault, Breakpoint}
+use Rattle.rv_event.specs.declared.event.TrapKind.TheVariants.{Illegal, FetchFault, MisalignedJump, LoadFault, StoreFault, Breakpoint, Abort}
 use Rattle.report_format.specs.Text.{kind_name, word_digits}
 
 -- a list is cut in one way at the first such element
@@ -76,6 +76,7 @@ dark-kind MisalignedJump = tested (kind_name MisalignedJump) refl
 dark-kind LoadFault = tested (kind_name LoadFault) refl
 dark-kind StoreFault = tested (kind_name StoreFault) refl
 dark-kind Breakpoint = tested (kind_name Breakpoint) refl
+dark-kind Abort = tested (kind_name Abort) refl
 
 -- where there is no such element, a list isn't cut at it
 pub absent : (c : ℕ) (xs a b : List ℕ) → All (λ d. d ≢ c) xs → xs ≡ a ++ (c ∷ b) → ⊥

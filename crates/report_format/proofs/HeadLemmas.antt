@@ -9,7 +9,7 @@ use Rattle.std.proofs.lemmas.List.Elements.{All-nil, All-cons, All-head, All-tai
 use Rattle.input_laws.specs.Sets.{IsByteSet, IsChoice}
 use Rattle.rv_event.specs.declared.event.Trap.{Trap}
 use Rattle.rv_event.specs.declared.event.TrapKind.{TrapKind}
-use Rattle.rv_event.specs.declared.event.TrapKind.TheVariants.{Illegal, FetchFault, MisalignedJump, LoadFault, StoreFault, Breakpoint}
+use Rattle.rv_event.specs.declared.event.TrapKind.TheVariants.{Illegal, FetchFault, MisalignedJump, LoadFault, StoreFault, Breakpoint, Abort}
 use Rattle.hex.specs.Hex.{encode_lower}
 use Rattle.report_format.proofs.DigitLemmas.{bytes-from_all}
 use Rattle.report_format.proofs.FormLemmas.{first_cut, dark-without, dark-decimal, dark-kind, dark-word, encode-injective, word-injective}
@@ -197,7 +197,7 @@ after-head of text rest is parts =
 letter_kind : ℕ → TrapKind
 letter_kind letter =
     if letter == 105 then Illegal else if letter == 102 then FetchFault else if letter == 109 then MisalignedJump
-    else if letter == 108 then LoadFault else if letter == 115 then StoreFault else Breakpoint
+    else if letter == 108 then LoadFault else if letter == 115 then StoreFault else if letter == 98 then Breakpoint else Abort
 
 letter_tells : (kind : TrapKind) → letter_kind (get_or (kind_name kind) 0 0) ≡ kind
 unfolding letter_kind
@@ -207,6 +207,7 @@ letter_tells MisalignedJump = refl
 letter_tells LoadFault = refl
 letter_tells StoreFault = refl
 letter_tells Breakpoint = refl
+letter_tells Abort = refl
 
 kind-injective : (a b : TrapKind) → kind_name a ≡ kind_name b → a ≡ b
 kind-injective a b same = sym (letter_tells a) ∙ (ap (λ (l : List ℕ). letter_kind (get_or l 0 0)) same ∙ letter_tells b)

@@ -57,6 +57,9 @@ fn a_report_is_read_and_written_again(rt: HostRuntime) -> Result<(), Fail> {
             set 2 1 0000000000000000000000000000000000000000000000000000000000000080\n\
             revealed 9 of 24\nend\n",
         "trap store 00010024 7ffffffc\nsteps 8\nseed 0\ninput 1\ndata ff\nrevealed 0 of 8\nend\n",
+        "trap abort 00010018 000000c8\nsteps 7\nseed 0\ninput 1\ndata c8\n\
+            set 0 1 0000000000000000000000000000000000000000000000000001000000000000\n\
+            revealed 8 of 8\nend\n",
     ];
     for body in bodies {
         let text = format!(in alloc; "crash-report 1\n{program}\n{body}")?;
@@ -77,7 +80,7 @@ fn changed_texts_fail_at_a_line(rt: HostRuntime) -> Result<(), Fail> {
         ("ab00", "AB00", 2),
         ("ab00", "ab0", 2),
         ("breakpoint", "Breakpoint", 3),
-        ("breakpoint", "abort", 3),
+        ("breakpoint", "aborted", 3),
         ("00010024", "0010024", 3),
         ("00010024", "0001002G", 3),
         ("steps 8", "steps 0", 4),

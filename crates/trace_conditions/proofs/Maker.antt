@@ -6,10 +6,10 @@ use Rattle.rv_word.specs.declared.AluOp.TheVariants.{Slt, Sltu}
 use Rattle.term_model.specs.Tree.{Tree, Const, Input, Apply}
 use Rattle.term_model.specs.Value.{val, op_value}
 use Rattle.term_model.specs.Words.{HasWords, AreBytes}
+use Rattle.term_model.specs.ByteNumber.{TakesByteNumber}
 use Rattle.term_model.specs.Places.{ReadsNothing}
 use Rattle.normal_form.specs.Norm.{norm}
 use Rattle.normal_form.specs.Normal.{IsNormal}
-use Rattle.normal_form.specs.Normal as normal
 use Rattle.normal_form.specs.Laws.{AreNormalOperands}
 use Rattle.replay_law.specs.Making.{IsMaker, IsCarefulMaker, IsConstant}
 use Rattle.trace_conditions.proofs.Reading.{norm_reads}
@@ -22,7 +22,7 @@ normal_words (Input i) h = tt
 normal_words (Apply op a b) h = (normal_words a h.0, normal_words b h.1)
 
 -- from the laws of the normal form
-pub norm_maker : ((op : Op) (a b : Tree) → IsNormal a → IsNormal b → normal.TakesByteNumber op b → IsNormal (norm op a b))
+pub norm_maker : ((op : Op) (a b : Tree) → IsNormal a → IsNormal b → TakesByteNumber op b → IsNormal (norm op a b))
     → ((op : Op) (a b : Tree) (input : List ℕ) → AreNormalOperands op a b input → val (norm op a b) input ≡ op_value op (val a input) (val b input))
     → ((t : Tree) (input : List ℕ) → HasWords t → AreBytes input → val t input < 2 ^ 32)
     → IsMaker norm IsNormal
