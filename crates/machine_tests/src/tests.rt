@@ -1,3 +1,5 @@
+//! Runs of small programs: each trap, each call, and the limit of steps.
+
 use crate::programs::{
     ACCESSES, BRANCHES, JUMP_BETWEEN_WORDS, JUMPS, LOAD_ACROSS_THE_STACK, READ_IN_PARTS,
     READ_OTHER_DESCRIPTOR, RUN_WHAT_IT_STORED, STORE_ACROSS_THE_STACK, UNKNOWN_CALL, WRAP_AROUND,
