@@ -27,7 +27,8 @@ fn one_of_bytes(
     requires second { second + 8 ≤ length a.now }
     ensures below { IfOk result (λ r. AreNamed (length net.new) r.items) }
     ensures trees { IfOk result (λ r. all_signed_of net.new r.items ≡
-        choose tree_gates (signed_of net.old choice) (byte_at tree_gates first (all_signed_of net.old a.now)) (byte_at tree_gates second (all_signed_of net.old a.now))) }
+        choose tree_gates (signed_of net.old choice) (byte_at tree_gates first (all_signed_of net.old a.now))
+        (byte_at tree_gates second (all_signed_of net.old a.now))) }
     ensures width { IfOk result (λ r. length r.items ≡ 8) }
     ensures keeps { Extends net.old net.new }
 {
@@ -50,7 +51,8 @@ pub(crate) fn named_byte(
     requires first_width { length a.now ≡ 32 }
     requires second_width { length b.now ≡ 32 }
     ensures below { IfOk result (λ r. AreNamed (length net.new) r.items) }
-    ensures trees { IfOk result (λ r. all_signed_of net.new r.items ≡ named_byte tree_gates (all_signed_of net.old a.now) (all_signed_of net.old b.now)) }
+    ensures trees { IfOk result (λ r. all_signed_of net.new r.items
+        ≡ named_byte tree_gates (all_signed_of net.old a.now) (all_signed_of net.old b.now)) }
     ensures width { IfOk result (λ r. length r.items ≡ 32) }
     ensures keeps { Extends net.old net.new }
 {

@@ -64,8 +64,10 @@ pub(crate) fn divide(
     requires second { AreNamed (length net.old) b.now }
     ensures quotient_below { IfOk result (λ d. AreNamed (length net.new) d.quotient.items) }
     ensures left_below { IfOk result (λ d. AreNamed (length net.new) d.left.items) }
-    ensures quotient { IfOk result (λ d. all_signed_of net.new d.quotient.items ≡ quotient tree_gates (all_signed_of net.old a.now) (all_signed_of net.old b.now)) }
-    ensures left { IfOk result (λ d. all_signed_of net.new d.left.items ≡ rest_of tree_gates (all_signed_of net.old a.now) (all_signed_of net.old b.now)) }
+    ensures quotient { IfOk result (λ d. all_signed_of net.new d.quotient.items
+        ≡ quotient tree_gates (all_signed_of net.old a.now) (all_signed_of net.old b.now)) }
+    ensures left { IfOk result (λ d. all_signed_of net.new d.left.items
+        ≡ rest_of tree_gates (all_signed_of net.old a.now) (all_signed_of net.old b.now)) }
     ensures quotient_width { IfOk result (λ d. length d.quotient.items ≡ length a.now) }
     ensures left_width { IfOk result (λ d. length d.left.items ≡ length b.now + 1) }
     ensures keeps { Extends net.old net.new }

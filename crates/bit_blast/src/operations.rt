@@ -63,7 +63,8 @@ pub(crate) fn operation(
     requires first_width { length a.now ≡ 32 }
     requires second_width { length b.now ≡ 32 }
     ensures below { IfOk result (λ r. AreNamed (length net.new) r.items) }
-    ensures trees { IfOk result (λ r. all_signed_of net.new r.items ≡ op_bits tree_gates op (all_signed_of net.old a.now) (all_signed_of net.old b.now)) }
+    ensures trees { IfOk result (λ r. all_signed_of net.new r.items
+        ≡ op_bits tree_gates op (all_signed_of net.old a.now) (all_signed_of net.old b.now)) }
     ensures width { IfOk result (λ r. length r.items ≡ 32) }
     ensures keeps { Extends net.old net.new }
 {

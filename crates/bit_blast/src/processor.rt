@@ -26,7 +26,8 @@ fn add(alloc: Global, net: &mut Net, a: &[Lit], b: &[Lit]) -> Result<Vec<Lit>, N
     requires first_width { length a.now ≡ 32 }
     requires second_width { length b.now ≡ 32 }
     ensures below { IfOk result (λ r. AreNamed (length net.new) r.items) }
-    ensures trees { IfOk result (λ r. all_signed_of net.new r.items ≡ sum tree_gates (tree_gates.no) (all_signed_of net.old a.now) (all_signed_of net.old b.now)) }
+    ensures trees { IfOk result (λ r. all_signed_of net.new r.items
+        ≡ sum tree_gates (tree_gates.no) (all_signed_of net.old a.now) (all_signed_of net.old b.now)) }
     ensures width { IfOk result (λ r. length r.items ≡ 32) }
     ensures keeps { Extends net.old net.new }
 {
@@ -42,7 +43,8 @@ fn subtract(alloc: Global, net: &mut Net, a: &[Lit], b: &[Lit]) -> Result<Vec<Li
     requires first_width { length a.now ≡ 32 }
     requires second_width { length b.now ≡ 32 }
     ensures below { IfOk result (λ r. AreNamed (length net.new) r.items) }
-    ensures trees { IfOk result (λ r. all_signed_of net.new r.items ≡ sum tree_gates (tree_gates.yes) (all_signed_of net.old a.now) (nots tree_gates (all_signed_of net.old b.now))) }
+    ensures trees { IfOk result (λ r. all_signed_of net.new r.items
+        ≡ sum tree_gates (tree_gates.yes) (all_signed_of net.old a.now) (nots tree_gates (all_signed_of net.old b.now))) }
     ensures width { IfOk result (λ r. length r.items ≡ 32) }
     ensures keeps { Extends net.old net.new }
 {
@@ -57,7 +59,8 @@ fn set_less(alloc: Global, net: &mut Net, a: &[Lit], b: &[Lit]) -> Result<Vec<Li
     requires first_width { length a.now ≡ 32 }
     requires second_width { length b.now ≡ 32 }
     ensures below { IfOk result (λ r. AreNamed (length net.new) r.items) }
-    ensures trees { IfOk result (λ r. all_signed_of net.new r.items ≡ truth tree_gates (less tree_gates (all_signed_of net.old a.now) (all_signed_of net.old b.now))) }
+    ensures trees { IfOk result (λ r. all_signed_of net.new r.items
+        ≡ truth tree_gates (less tree_gates (all_signed_of net.old a.now) (all_signed_of net.old b.now))) }
     ensures width { IfOk result (λ r. length r.items ≡ 32) }
     ensures keeps { Extends net.old net.new }
 {
@@ -74,7 +77,8 @@ fn set_less_signed(alloc: Global, net: &mut Net, a: &[Lit], b: &[Lit]) -> Result
     requires first_width { length a.now ≡ 32 }
     requires second_width { length b.now ≡ 32 }
     ensures below { IfOk result (λ r. AreNamed (length net.new) r.items) }
-    ensures trees { IfOk result (λ r. all_signed_of net.new r.items ≡ truth tree_gates (less_signed tree_gates (all_signed_of net.old a.now) (all_signed_of net.old b.now))) }
+    ensures trees { IfOk result (λ r. all_signed_of net.new r.items
+        ≡ truth tree_gates (less_signed tree_gates (all_signed_of net.old a.now) (all_signed_of net.old b.now))) }
     ensures width { IfOk result (λ r. length r.items ≡ 32) }
     ensures keeps { Extends net.old net.new }
 {
@@ -96,7 +100,8 @@ pub(crate) fn set_equal(
     requires first_width { length a.now ≡ 32 }
     requires second_width { length b.now ≡ 32 }
     ensures below { IfOk result (λ r. AreNamed (length net.new) r.items) }
-    ensures trees { IfOk result (λ r. all_signed_of net.new r.items ≡ truth tree_gates (equal tree_gates (all_signed_of net.old a.now) (all_signed_of net.old b.now))) }
+    ensures trees { IfOk result (λ r. all_signed_of net.new r.items
+        ≡ truth tree_gates (equal tree_gates (all_signed_of net.old a.now) (all_signed_of net.old b.now))) }
     ensures width { IfOk result (λ r. length r.items ≡ 32) }
     ensures keeps { Extends net.old net.new }
 {
@@ -118,7 +123,8 @@ fn shift_right_zeros(
     requires first_width { length a.now ≡ 32 }
     requires second_width { length b.now ≡ 32 }
     ensures below { IfOk result (λ r. AreNamed (length net.new) r.items) }
-    ensures trees { IfOk result (λ r. all_signed_of net.new r.items ≡ shift_right tree_gates (tree_gates.no) (all_signed_of net.old a.now) (all_signed_of net.old b.now)) }
+    ensures trees { IfOk result (λ r. all_signed_of net.new r.items
+        ≡ shift_right tree_gates (tree_gates.no) (all_signed_of net.old a.now) (all_signed_of net.old b.now)) }
     ensures width { IfOk result (λ r. length r.items ≡ 32) }
     ensures keeps { Extends net.old net.new }
 {
@@ -139,7 +145,8 @@ fn shift_right_signs(
     requires first_width { length a.now ≡ 32 }
     requires second_width { length b.now ≡ 32 }
     ensures below { IfOk result (λ r. AreNamed (length net.new) r.items) }
-    ensures trees { IfOk result (λ r. all_signed_of net.new r.items ≡ shift_right tree_gates (sign tree_gates (all_signed_of net.old a.now)) (all_signed_of net.old a.now) (all_signed_of net.old b.now)) }
+    ensures trees { IfOk result (λ r. all_signed_of net.new r.items
+        ≡ shift_right tree_gates (sign tree_gates (all_signed_of net.old a.now)) (all_signed_of net.old a.now) (all_signed_of net.old b.now)) }
     ensures width { IfOk result (λ r. length r.items ≡ 32) }
     ensures keeps { Extends net.old net.new }
 {
@@ -155,7 +162,9 @@ fn upper_signed(alloc: Global, net: &mut Net, a: &[Lit], b: &[Lit]) -> Result<Ve
     requires first_width { length a.now ≡ 32 }
     requires second_width { length b.now ≡ 32 }
     ensures below { IfOk result (λ r. AreNamed (length net.new) r.items) }
-    ensures trees { IfOk result (λ r. all_signed_of net.new r.items ≡ upper_product tree_gates (sign tree_gates (all_signed_of net.old a.now)) (sign tree_gates (all_signed_of net.old b.now)) (all_signed_of net.old a.now) (all_signed_of net.old b.now)) }
+    ensures trees { IfOk result (λ r. all_signed_of net.new r.items
+        ≡ upper_product tree_gates (sign tree_gates (all_signed_of net.old a.now)) (sign tree_gates (all_signed_of net.old b.now))
+        (all_signed_of net.old a.now) (all_signed_of net.old b.now)) }
     ensures width { IfOk result (λ r. length r.items ≡ 32) }
     ensures keeps { Extends net.old net.new }
 {
@@ -172,7 +181,9 @@ fn upper_mixed(alloc: Global, net: &mut Net, a: &[Lit], b: &[Lit]) -> Result<Vec
     requires first_width { length a.now ≡ 32 }
     requires second_width { length b.now ≡ 32 }
     ensures below { IfOk result (λ r. AreNamed (length net.new) r.items) }
-    ensures trees { IfOk result (λ r. all_signed_of net.new r.items ≡ upper_product tree_gates (sign tree_gates (all_signed_of net.old a.now)) (tree_gates.no) (all_signed_of net.old a.now) (all_signed_of net.old b.now)) }
+    ensures trees { IfOk result (λ r. all_signed_of net.new r.items
+        ≡ upper_product tree_gates (sign tree_gates (all_signed_of net.old a.now)) (tree_gates.no)
+        (all_signed_of net.old a.now) (all_signed_of net.old b.now)) }
     ensures width { IfOk result (λ r. length r.items ≡ 32) }
     ensures keeps { Extends net.old net.new }
 {
@@ -189,7 +200,8 @@ fn upper_unsigned(alloc: Global, net: &mut Net, a: &[Lit], b: &[Lit]) -> Result<
     requires first_width { length a.now ≡ 32 }
     requires second_width { length b.now ≡ 32 }
     ensures below { IfOk result (λ r. AreNamed (length net.new) r.items) }
-    ensures trees { IfOk result (λ r. all_signed_of net.new r.items ≡ upper_product tree_gates (tree_gates.no) (tree_gates.no) (all_signed_of net.old a.now) (all_signed_of net.old b.now)) }
+    ensures trees { IfOk result (λ r. all_signed_of net.new r.items
+        ≡ upper_product tree_gates (tree_gates.no) (tree_gates.no) (all_signed_of net.old a.now) (all_signed_of net.old b.now)) }
     ensures width { IfOk result (λ r. length r.items ≡ 32) }
     ensures keeps { Extends net.old net.new }
 {
@@ -210,7 +222,8 @@ fn quotient_unsigned(
     requires first_width { length a.now ≡ 32 }
     requires second_width { length b.now ≡ 32 }
     ensures below { IfOk result (λ r. AreNamed (length net.new) r.items) }
-    ensures trees { IfOk result (λ r. all_signed_of net.new r.items ≡ quotient tree_gates (all_signed_of net.old a.now) (all_signed_of net.old b.now)) }
+    ensures trees { IfOk result (λ r. all_signed_of net.new r.items
+        ≡ quotient tree_gates (all_signed_of net.old a.now) (all_signed_of net.old b.now)) }
     ensures width { IfOk result (λ r. length r.items ≡ 32) }
     ensures keeps { Extends net.old net.new }
 {
@@ -231,7 +244,8 @@ pub(crate) fn alu(
     requires first_width { length a.now ≡ 32 }
     requires second_width { length b.now ≡ 32 }
     ensures below { IfOk result (λ r. AreNamed (length net.new) r.items) }
-    ensures trees { IfOk result (λ r. all_signed_of net.new r.items ≡ alu_bits tree_gates op (all_signed_of net.old a.now) (all_signed_of net.old b.now)) }
+    ensures trees { IfOk result (λ r. all_signed_of net.new r.items
+        ≡ alu_bits tree_gates op (all_signed_of net.old a.now) (all_signed_of net.old b.now)) }
     ensures width { IfOk result (λ r. length r.items ≡ 32) }
     ensures keeps { Extends net.old net.new }
 {

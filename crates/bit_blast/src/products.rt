@@ -45,7 +45,8 @@ fn add_row(
     requires width { length so_far.now ≡ length a.now }
     ensures below { IfOk result (λ r. AreNamed (length net.new) r.items) }
     ensures trees { IfOk result (λ r. all_signed_of net.new r.items ≡
-        sum tree_gates (tree_gates.no) (all_signed_of net.old so_far.now) (up tree_gates place (under tree_gates (signed_of net.old bit) (all_signed_of net.old a.now)))) }
+        sum tree_gates (tree_gates.no) (all_signed_of net.old so_far.now)
+        (up tree_gates place (under tree_gates (signed_of net.old bit) (all_signed_of net.old a.now)))) }
     ensures width { IfOk result (λ r. length r.items ≡ length a.now) }
     ensures keeps { Extends net.old net.new }
 {
@@ -66,7 +67,8 @@ pub(crate) fn product(
     requires first { AreNamed (length net.old) a.now }
     requires second { AreNamed (length net.old) b.now }
     ensures below { IfOk result (λ r. AreNamed (length net.new) r.items) }
-    ensures trees { IfOk result (λ r. all_signed_of net.new r.items ≡ product tree_gates (all_signed_of net.old a.now) (all_signed_of net.old b.now)) }
+    ensures trees { IfOk result (λ r. all_signed_of net.new r.items
+        ≡ product tree_gates (all_signed_of net.old a.now) (all_signed_of net.old b.now)) }
     ensures width { IfOk result (λ r. length r.items ≡ length a.now) }
     ensures keeps { Extends net.old net.new }
 {
@@ -105,7 +107,8 @@ pub(crate) fn upper_product(
     requires second { AreNamed (length net.old) b.now }
     ensures below { IfOk result (λ r. AreNamed (length net.new) r.items) }
     ensures trees { IfOk result (λ r. all_signed_of net.new r.items ≡
-        upper_product tree_gates (signed_of net.old above) (signed_of net.old other_above) (all_signed_of net.old a.now) (all_signed_of net.old b.now)) }
+        upper_product tree_gates (signed_of net.old above) (signed_of net.old other_above)
+        (all_signed_of net.old a.now) (all_signed_of net.old b.now)) }
     ensures width { IfOk result (λ r. length r.items ≡ length a.now) }
     ensures keeps { Extends net.old net.new }
 {

@@ -46,7 +46,8 @@ pub(crate) fn shift_left(
     requires second { AreNamed (length net.old) b.now }
     requires width { 5 ≤ length b.now }
     ensures below { IfOk result (λ r. AreNamed (length net.new) r.items) }
-    ensures trees { IfOk result (λ r. all_signed_of net.new r.items ≡ shift_left tree_gates (all_signed_of net.old a.now) (all_signed_of net.old b.now)) }
+    ensures trees { IfOk result (λ r. all_signed_of net.new r.items
+        ≡ shift_left tree_gates (all_signed_of net.old a.now) (all_signed_of net.old b.now)) }
     ensures width { IfOk result (λ r. length r.items ≡ length a.now) }
     ensures keeps { Extends net.old net.new }
 {
@@ -72,7 +73,8 @@ fn stage_down(
     requires word { AreNamed (length net.old) a.now }
     ensures below { IfOk result (λ r. AreNamed (length net.new) r.items) }
     ensures trees { IfOk result (λ r. all_signed_of net.new r.items ≡
-        choose tree_gates (signed_of net.old choice) (down tree_gates (signed_of net.old fill) distance (all_signed_of net.old a.now)) (all_signed_of net.old a.now)) }
+        choose tree_gates (signed_of net.old choice)
+        (down tree_gates (signed_of net.old fill) distance (all_signed_of net.old a.now)) (all_signed_of net.old a.now)) }
     ensures width { IfOk result (λ r. length r.items ≡ length a.now) }
     ensures keeps { Extends net.old net.new }
 {
@@ -96,7 +98,8 @@ pub(crate) fn shift_right(
     requires second { AreNamed (length net.old) b.now }
     requires width { 5 ≤ length b.now }
     ensures below { IfOk result (λ r. AreNamed (length net.new) r.items) }
-    ensures trees { IfOk result (λ r. all_signed_of net.new r.items ≡ shift_right tree_gates (signed_of net.old fill) (all_signed_of net.old a.now) (all_signed_of net.old b.now)) }
+    ensures trees { IfOk result (λ r. all_signed_of net.new r.items
+        ≡ shift_right tree_gates (signed_of net.old fill) (all_signed_of net.old a.now) (all_signed_of net.old b.now)) }
     ensures width { IfOk result (λ r. length r.items ≡ length a.now) }
     ensures keeps { Extends net.old net.new }
 {

@@ -67,7 +67,8 @@ pub(crate) fn remainder(
     requires first { AreNamed (length net.old) a.now }
     requires second { AreNamed (length net.old) b.now }
     ensures below { IfOk result (λ r. AreNamed (length net.new) r.items) }
-    ensures trees { IfOk result (λ r. all_signed_of net.new r.items ≡ remainder tree_gates (all_signed_of net.old a.now) (all_signed_of net.old b.now)) }
+    ensures trees { IfOk result (λ r. all_signed_of net.new r.items
+        ≡ remainder tree_gates (all_signed_of net.old a.now) (all_signed_of net.old b.now)) }
     ensures width { IfOk result (λ r. length r.items ≡ length b.now) }
     ensures keeps { Extends net.old net.new }
 {
@@ -168,7 +169,8 @@ pub(crate) fn remainder_signed(
     requires first { AreNamed (length net.old) a.now }
     requires second { AreNamed (length net.old) b.now }
     ensures below { IfOk result (λ r. AreNamed (length net.new) r.items) }
-    ensures trees { IfOk result (λ r. all_signed_of net.new r.items ≡ remainder_signed tree_gates (all_signed_of net.old a.now) (all_signed_of net.old b.now)) }
+    ensures trees { IfOk result (λ r. all_signed_of net.new r.items
+        ≡ remainder_signed tree_gates (all_signed_of net.old a.now) (all_signed_of net.old b.now)) }
     ensures width { IfOk result (λ r. length r.items ≡ length b.now) }
     ensures keeps { Extends net.old net.new }
 {
@@ -209,7 +211,8 @@ fn quotient_by_signs(
 fn is_zero(alloc: Global, net: &mut Net, b: &[Lit]) -> Result<Lit, NoMemory>
     requires word { AreNamed (length net.old) b.now }
     ensures below { IfOk result (λ l. l.name < length net.new) }
-    ensures tree { IfOk result (λ l. signed_of net.new l ≡ equal tree_gates (all_signed_of net.old b.now) (nos tree_gates (length (all_signed_of net.old b.now)))) }
+    ensures tree { IfOk result (λ l. signed_of net.new l
+        ≡ equal tree_gates (all_signed_of net.old b.now) (nos tree_gates (length (all_signed_of net.old b.now)))) }
     ensures keeps { Extends net.old net.new }
 {
     let _net = net.len();
@@ -231,7 +234,8 @@ pub(crate) fn quotient_signed(
     requires first { AreNamed (length net.old) a.now }
     requires second { AreNamed (length net.old) b.now }
     ensures below { IfOk result (λ r. AreNamed (length net.new) r.items) }
-    ensures trees { IfOk result (λ r. all_signed_of net.new r.items ≡ quotient_signed tree_gates (all_signed_of net.old a.now) (all_signed_of net.old b.now)) }
+    ensures trees { IfOk result (λ r. all_signed_of net.new r.items
+        ≡ quotient_signed tree_gates (all_signed_of net.old a.now) (all_signed_of net.old b.now)) }
     ensures width { IfOk result (λ r. length r.items ≡ length a.now) }
     ensures keeps { Extends net.old net.new }
 {

@@ -91,7 +91,8 @@ pub(crate) fn learn(
     decisions: &mut Vec<Lit>,
 ) -> Result<(), NoMemory>
     requires { AreNamed closer.old.names decisions.old.items }
-    ensures learned { OnOk result (state_of closer.new decisions.new.items ≡ learn named closer.old.formula (state_of closer.old decisions.old.items)) }
+    ensures learned { OnOk result (state_of closer.new decisions.new.items
+        ≡ learn named closer.old.formula (state_of closer.old decisions.old.items)) }
     ensures named { AreNamed closer.new.names decisions.new.items }
     ensures one { OnOk result (length closer.new.learned ≡ length closer.old.learned + 1) }
     ensures kept { SameFormula closer.old closer.new }

@@ -1,3 +1,5 @@
+//! The instruction table word by word, and the operations at their corners.
+
 use crate::values::{OPERATIONS, RESULTS};
 use crate::words::{
     ATOMIC, AUIPC, BRANCHES, COMPRESSED, FENCES, FLOATING, IMMEDIATES, JAL, JALR, LOADS, LUI,

@@ -6,7 +6,8 @@ ghost use Rattle.elf32.specs.declared.error.ElfError.TheVariants.{NoMemory};
 ghost use Rattle.elf32.specs.declared.header.Header.{Header};
 ghost use Rattle.elf32.specs.Fields.{e_entry, e_phnum, headers, HasTable};
 ghost use Rattle.elf32.specs.Spans.{stack, share, overlap};
-ghost use Rattle.elf32.specs.Rules.{lacks_magic, lacks_table, has_other_instructions, refusal, is_dynamic, is_load, is_outside, is_loaded, span_of, spans_of, memory_size, segment_refusal};
+ghost use Rattle.elf32.specs.Rules.{lacks_magic, lacks_table, has_other_instructions, refusal, is_dynamic, is_load};
+ghost use Rattle.elf32.specs.Rules.{is_outside, is_loaded, span_of, spans_of, memory_size, segment_refusal};
 
 use crate::error::ElfError;
 use crate::header::{

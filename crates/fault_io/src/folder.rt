@@ -1,3 +1,5 @@
+//! What a folder of files promises, and the plain one in memory.
+
 ghost use Rattle.std.specs.Prelude.{◌≡◌, ◌≢◌, ℕ, ◌≤◌, Option, None, Some, IfSome, IfOk, option_map};
 ghost use Rattle.fault_io.specs.Faults.{Rose};
 ghost use Rattle.fault_io.specs.Files.{Files, answer_for, IsWithin, file_of};

@@ -1,3 +1,5 @@
+//! A folder in memory that gives its files in pieces, and whose reads fail by number.
+
 ghost use Rattle.std.specs.Prelude.{◌≡◌, ◌≢◌, ◌+◌, ◌<◌, ◌≤◌, true, false, length, None, Some, IfSome, IfOk};
 ghost use Rattle.fault_io.specs.Files.{answer_for, file_of};
 ghost use Rattle.fault_io.specs.Reads.{after_reads, failed_among, NoneFails, LastFails, reads_for};

@@ -1,3 +1,5 @@
+//! What a sink of bytes promises, and the one in memory.
+
 ghost use Rattle.std.specs.Prelude.{◌≡◌, ℕ, ◌+◌, ◌^◌, ◌<◌, ◌≤◌, ◌↔◌, List, [], ◌++◌, length, take, min, Option, Some, IfOk, OnErr, IsErr};
 ghost use Rattle.fault_io.specs.Faults.{Rose, raised, after_taking};
 ghost use Rattle.fault_io.specs.Sinks.{left};

@@ -1,3 +1,5 @@
+//! Folders and sinks in memory and of the system: limits, pieces, failures and counts.
+
 use crate::source::fetch_opened;
 use crate::{
     Bytes, Failed, FetchFault, Fetched, FileList, Folder, HostFolder, HostSink, MemFolder, MemSink,

@@ -7,7 +7,8 @@
 //! function where its own proof needs the law.
 #![tactic(auto)]
 
-ghost use Rattle.std.specs.Prelude.{◌≡◌, ◌^◌, ◌<◌, ◌≤◌, ◌≢◌, ◌↔◌, ℕ, Bool, List, true, Some, length, slice_index, slice_index_or, map, nat_lt, All, Contains};
+ghost use Rattle.std.specs.Prelude.{◌≡◌, ◌^◌, ◌<◌, ◌≤◌, ◌≢◌, ◌↔◌, ℕ, Bool, List, true, Some, length, slice_index};
+ghost use Rattle.std.specs.Prelude.{slice_index_or, map, nat_lt, All, Contains};
 ghost use Rattle.std.specs.List.{list_any};
 ghost use Rattle.term_model.specs.Tree.{Tree};
 ghost use Rattle.term_model.specs.Places.{reads, ReadsBelow};

@@ -5,7 +5,8 @@
 //! function where its own proof needs the law.
 #![tactic(auto)]
 
-ghost use Rattle.std.specs.Prelude.{◌≡◌, ◌*◌, ◌^◌, ◌<◌, ◌≤◌, ◌≢◌, ◌↔◌, ℕ, Bool, List, Some, None, length, replicate, All, AllPairs, Contains, nat_lt, slice_index, IsTrue, IsFalse};
+ghost use Rattle.std.specs.Prelude.{◌≡◌, ◌*◌, ◌^◌, ◌<◌, ◌≤◌, ◌≢◌, ◌↔◌, ℕ, Bool, List, Some, None, length, replicate};
+ghost use Rattle.std.specs.Prelude.{All, AllPairs, Contains, nat_lt, slice_index, IsTrue, IsFalse};
 ghost use Rattle.input_laws.specs.Inputs.{IsInput, all_inputs, class_size};
 ghost use Rattle.input_laws.specs.Order.{ComesBefore, IsFirst, inputs_in_order, first};
 ghost use Rattle.input_laws.specs.Sets.{IsChoice, size, set_at, floor_log2, revealed, IsByteByByte, TakesLeast, IsByteSet, freed, freed_sets};

@@ -1,3 +1,5 @@
+//! Runs of small programs: each trap, each call, and the limit of steps.
+
 use crate::programs::{
     ABORT, ACCESSES, BRANCHES, BREAK_AT_THE_END, BREAK_BACK_AND_FORTH, FIRST_ABORT, FREED_BYTE,
     HEAP_OF_SIXTEEN, JUMP_BETWEEN_WORDS, JUMPS, LAST_EXIT, LOAD_ACROSS_THE_STACK, NO_HEAP_YET,

@@ -29,7 +29,8 @@ pub(crate) fn first_at(
     requires room { length arena.now ≤ scratch.old }
     requires reads { All (λ t. ReadsBelow (length trial.old) (tree_of arena.now t)) conditions.now }
     requires within { place < length trial.old }
-    ensures first { MatchOption result (NoneAt (holds (trees_of arena.now conditions.now)) trial.old place) (IsFirstAt (holds (trees_of arena.now conditions.now)) mask trial.old place) }
+    ensures first { MatchOption result (NoneAt (holds (trees_of arena.now conditions.now)) trial.old place)
+        (IsFirstAt (holds (trees_of arena.now conditions.now)) mask trial.old place) }
     ensures aside { (v : ℕ) → slice_set trial.new place v ≡ slice_set trial.old place v }
     ensures keeps { scratch.new ≡ scratch.old }
 {
@@ -62,7 +63,8 @@ pub(crate) fn first_pair(
     requires within { high < length trial.old }
     requires masked { high < length mask.now }
     ensures first { MatchOption result (NoPairAt (holds (trees_of arena.now conditions.now)) trial.old low high) (λ pair.
-        IsFirstPair (holds (trees_of arena.now conditions.now)) (slice_index mask.now low) (slice_index mask.now high) trial.old low high pair.0 pair.1) }
+        IsFirstPair (holds (trees_of arena.now conditions.now)) (slice_index mask.now low)
+        (slice_index mask.now high) trial.old low high pair.0 pair.1) }
     ensures bytes { IfSome result (λ pair. (pair.0 < 256) × (pair.1 < 256)) }
     ensures keeps { scratch.new ≡ scratch.old }
 {

@@ -1,3 +1,5 @@
+//! The conditions of small runs, compared with what is worked out by hand.
+
 use elf32::Image;
 use rv_machine::trace_of;
 use rv_word::AluOp;

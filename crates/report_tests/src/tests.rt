@@ -1,6 +1,9 @@
+//! Reports of runs in which at most two bytes are tied together, and the order of a seed.
+
 use crate::case::{Case, breakpoint, expect, expect_revealed, expect_text, has_values};
 use crate::make::{BUDGET, made_of, made_of_file};
 use crate::programs::EACH_BYTE;
+use report_maker::order_mask;
 use rv_event::{Trap, TrapKind};
 use std::alloc::Global;
 use std::process::Abort;
@@ -281,6 +284,24 @@ fn the_order_of_a_seed(rt: HostRuntime) -> Result<(), Fail> {
     ];
     for case in &cases {
         meets(&rt, rt.alloc(), case)?;
+    }
+    Ok(())
+}
+
+/// The mask of seed 0 is zeros. That of any other seed is the first bytes of its generator, whatever the length.
+#[test]
+fn masks(rt: HostRuntime) -> Result<(), Fail> {
+    let alloc = rt.alloc();
+    let cases: [(u64, &[u8]); 5] = [
+        (0, &[0; 5]),
+        (1, b"\xe6\x0b\xa7\x33\xee\xf3\xbc\x7d\x51\x47\xdf\xca\xc0"),
+        (1, b"\xe6\x0b"),
+        (1, b""),
+        (u64::MAX, b"\x7e\x99\x2f\x98\x86\xa6"),
+    ];
+    for (seed, bytes) in &cases {
+        let mask = order_mask(alloc, *seed, bytes.len() as u32)?;
+        assert_eq!(rt; mask.as_slice(), *bytes);
     }
     Ok(())
 }

@@ -4,7 +4,9 @@ ghost use Rattle.std.specs.Prelude.{◌≡◌, IfSome, IfNone, is_some, if◌the
 ghost use Rattle.rv_decode.specs.declared.instr.Instr.{Instr};
 ghost use Rattle.rv_decode.specs.Table.{decoded, rows_matched};
 ghost use Rattle.rv_decode.specs.Rows.{IsRow, IsWellFormed};
-ghost use Rattle.rv_decode.specs.Opcodes.{condition_of, load_width_of, store_width_of, immediate_op_of, shift_of, base_op_of, multiply_op_of, register_op_of, branch_of, load_of, store_of, alu_immediate_of, alu_register_of, instruction_of};
+ghost use Rattle.rv_decode.specs.Opcodes.{condition_of, load_width_of, store_width_of, immediate_op_of, shift_of};
+ghost use Rattle.rv_decode.specs.Opcodes.{base_op_of, multiply_op_of, register_op_of, branch_of, load_of, store_of};
+ghost use Rattle.rv_decode.specs.Opcodes.{alu_immediate_of, alu_register_of, instruction_of};
 
 use crate::fields::{
     b_offset, funct3, funct7, i_immediate, j_offset, opcode, rd, rs1, rs2, s_immediate, u_immediate,

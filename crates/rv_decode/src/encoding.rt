@@ -1,9 +1,11 @@
 //! From an instruction to its word.
 
 ghost use Rattle.std.specs.Prelude.{◌≡◌, ℕ, ◌<◌, ◌^◌, Some};
-ghost use Rattle.rv_decode.specs.Fields.{opcode_of, rd_of, funct3_of, rs1_of, rs2_of, funct7_of, i_immediate, s_immediate, b_offset, u_immediate, j_offset};
+ghost use Rattle.rv_decode.specs.Fields.{opcode_of, rd_of, funct3_of, rs1_of, rs2_of, funct7_of, i_immediate};
+ghost use Rattle.rv_decode.specs.Fields.{s_immediate, b_offset, u_immediate, j_offset};
 ghost use Rattle.rv_decode.specs.Table.{decoded};
-ghost use Rattle.rv_decode.specs.Opcodes.{condition_of, load_width_of, store_width_of, register_op_of, branch_of, load_of, store_of, alu_immediate_of, alu_register_of, instruction_of};
+ghost use Rattle.rv_decode.specs.Opcodes.{condition_of, load_width_of, store_width_of, register_op_of, branch_of};
+ghost use Rattle.rv_decode.specs.Opcodes.{load_of, store_of, alu_immediate_of, alu_register_of, instruction_of};
 ghost use Rattle.rv_decode.specs.Rows.{IsWithin, IsMultiple, IsStored, IsImmediate, IsWellFormed};
 
 use crate::fields::field;

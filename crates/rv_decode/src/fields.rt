@@ -2,7 +2,8 @@
 //! Variants" of the RISC-V Unprivileged ISA).
 
 ghost use Rattle.std.specs.Prelude.{◌≡◌, ◌<◌, ◌^◌};
-ghost use Rattle.rv_decode.specs.Fields.{field, opcode_of, rd_of, funct3_of, rs1_of, rs2_of, funct7_of, sign_extended, i_immediate, s_immediate, b_offset, u_immediate, j_offset};
+ghost use Rattle.rv_decode.specs.Fields.{field, opcode_of, rd_of, funct3_of, rs1_of, rs2_of, funct7_of, sign_extended};
+ghost use Rattle.rv_decode.specs.Fields.{i_immediate, s_immediate, b_offset, u_immediate, j_offset};
 
 /// The `count` bits of a word from bit `low` up.
 pub fn field(word: u32, low: u32, count: u32) -> u32

@@ -4,7 +4,8 @@
 //! Each function here has an empty body, and its contract is a law.
 #![tactic(auto)]
 
-ghost use Rattle.std.specs.Prelude.{◌≡◌, ◌*◌, ◌^◌, ◌<◌, ◌≤◌, ℕ, Bool, List, [], true, false, Some, None, All, Contains, IsTrue, length, filter, find, map, nat_lt, option_map, slice_index, sum_by};
+ghost use Rattle.std.specs.Prelude.{◌≡◌, ◌*◌, ◌^◌, ◌<◌, ◌≤◌, ℕ, Bool, List, [], true, false, Some, None, All, Contains};
+ghost use Rattle.std.specs.Prelude.{IsTrue, length, filter, find, map, nat_lt, option_map, slice_index, sum_by};
 ghost use Rattle.term_model.specs.Tree.{Tree};
 ghost use Rattle.term_model.specs.Places.{ReadsBelow};
 ghost use Rattle.term_model.specs.Truth.{is_truth};

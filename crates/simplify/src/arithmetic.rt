@@ -2,7 +2,9 @@
 
 ghost use Rattle.std.specs.Prelude.{◌≡◌, ◌<◌, length};
 ghost use Rattle.term_arena.specs.Trees.{tree_of};
-ghost use Rattle.normal_form.specs.ArithmeticRules.{keeps_with_zero, is_zero_with_zero, drop_zero, subtract_by_adding, combine_added_constants, absorb_zero, drop_neutral_constant, remainder_by_one, or_with_all_ones};
+ghost use Rattle.normal_form.specs.ArithmeticRules.{keeps_with_zero, is_zero_with_zero, drop_zero, subtract_by_adding};
+ghost use Rattle.normal_form.specs.ArithmeticRules.{combine_added_constants, absorb_zero, drop_neutral_constant};
+ghost use Rattle.normal_form.specs.ArithmeticRules.{remainder_by_one, or_with_all_ones};
 ghost use Rattle.normal_form.specs.Rules.{first_fit, arithmetic_rules};
 ghost use Rattle.simplify.specs.Written.{planned, AreBelow};
 

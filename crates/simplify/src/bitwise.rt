@@ -2,7 +2,9 @@
 
 ghost use Rattle.std.specs.Prelude.{◌≡◌, ◌<◌, length};
 ghost use Rattle.term_arena.specs.Trees.{tree_of};
-ghost use Rattle.normal_form.specs.ArithmeticRules.{passes_byte, drop_repeated_operand, cancel_repeated_operand, equal_to_itself, combine_bitwise_constants, drop_mask, combine_shifts, shift_all_out};
+ghost use Rattle.normal_form.specs.ArithmeticRules.{passes_byte, drop_repeated_operand, cancel_repeated_operand};
+ghost use Rattle.normal_form.specs.ArithmeticRules.{equal_to_itself, combine_bitwise_constants, drop_mask};
+ghost use Rattle.normal_form.specs.ArithmeticRules.{combine_shifts, shift_all_out};
 ghost use Rattle.normal_form.specs.Rules.{first_fit, bitwise_rules};
 ghost use Rattle.simplify.specs.Written.{planned, AreBelow};
 

@@ -2,7 +2,9 @@
 
 ghost use Rattle.std.specs.Prelude.{◌≡◌, ◌<◌, length};
 ghost use Rattle.term_arena.specs.Trees.{tree_of};
-ghost use Rattle.normal_form.specs.ByteRules.{byte_is_zero, byte_of_one_byte, byte_of_pair, byte_of_half, byte_beside_zero, byte_under_mask, byte_of_left_shift, byte_of_right_shift};
+ghost use Rattle.normal_form.specs.ByteRules.{byte_is_zero, byte_of_one_byte, byte_of_pair, byte_of_half};
+ghost use Rattle.normal_form.specs.ByteRules.{byte_beside_zero, byte_under_mask, byte_of_left_shift};
+ghost use Rattle.normal_form.specs.ByteRules.{byte_of_right_shift};
 ghost use Rattle.normal_form.specs.Rules.{first_fit, byte_rules};
 ghost use Rattle.simplify.specs.Written.{planned, AreBelow};
 

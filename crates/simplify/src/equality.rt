@@ -2,7 +2,9 @@
 
 ghost use Rattle.std.specs.Prelude.{◌≡◌, ◌<◌, length};
 ghost use Rattle.term_arena.specs.Trees.{tree_of};
-ghost use Rattle.normal_form.specs.EqualityRules.{differs_at_byte, xor_across_equality, add_across_equality, difference_is_zero, truth_is_one, double_negation, truth_is_no_larger, zero_byte_differs};
+ghost use Rattle.normal_form.specs.EqualityRules.{differs_at_byte, xor_across_equality, add_across_equality};
+ghost use Rattle.normal_form.specs.EqualityRules.{difference_is_zero, truth_is_one, double_negation};
+ghost use Rattle.normal_form.specs.EqualityRules.{truth_is_no_larger, zero_byte_differs};
 ghost use Rattle.normal_form.specs.Rules.{first_fit, equality_rules};
 ghost use Rattle.simplify.specs.Written.{planned, AreBelow};
 

@@ -141,7 +141,8 @@ fn shared(trail: &Trail, decisions: &[Lit]) -> Kept
     ensures path { IsPath trail.now }
     ensures levels { result.levels ≤ length trail.now.marks }
     ensures decisions { result.decisions ≤ length decisions.now }
-    ensures kept { (d : Lit) → Contains (take result.decisions decisions.now) d → Contains (take (end_of trail.now result.levels) trail.now.literals) d }
+    ensures kept { (d : Lit) → Contains (take result.decisions decisions.now) d →
+        Contains (take (end_of trail.now result.levels) trail.now.literals) d }
     ensures decided { (i : ℕ) → i < result.levels → Contains decisions.now (lit_at trail.now.literals (slice_index trail.now.marks i)) }
 {
     let _ = trail.levels();
@@ -193,7 +194,8 @@ fn decide(trail: &mut Trail, watches: &mut Watches, d: Lit) -> Closed
     ensures grown { (l : Lit) → Contains trail.old.literals l → Contains trail.new.literals l }
     ensures decided { (ds : List Lit) → Contains ds d → IsDecidedBy trail.old ds → IsDecidedBy trail.new ds }
     ensures set { result ≡ Closed.Set → Contains trail.new.literals d }
-    ensures conflict { result ≡ Closed.Conflict → (ds : List Lit) → Contains ds d → IsDecidedBy trail.old ds → IsConflict named watches.old.clauses ds }
+    ensures conflict { result ≡ Closed.Conflict → (ds : List Lit) → Contains ds d → IsDecidedBy trail.old ds →
+        IsConflict named watches.old.clauses ds }
 {
     if trail.is_false(d) {
         return Closed::Conflict;
@@ -227,7 +229,8 @@ fn decide_all(trail: &mut Trail, watches: &mut Watches, decisions: &[Lit]) -> Cl
     ensures grown { (l : Lit) → Contains trail.old.literals l → Contains trail.new.literals l }
     ensures decided { (ds : List Lit) → ((d : Lit) → Contains decisions.now d → Contains ds d) → IsDecidedBy trail.old ds → IsDecidedBy trail.new ds }
     ensures set { result ≡ Closed.Set → (d : Lit) → Contains decisions.now d → Contains trail.new.literals d }
-    ensures conflict { result ≡ Closed.Conflict → (ds : List Lit) → ((d : Lit) → Contains decisions.now d → Contains ds d) → IsDecidedBy trail.old ds → IsConflict named watches.old.clauses ds }
+    ensures conflict { result ≡ Closed.Conflict → (ds : List Lit) → ((d : Lit) → Contains decisions.now d → Contains ds d) →
+        IsDecidedBy trail.old ds → IsConflict named watches.old.clauses ds }
 {
     for d in decisions {
         match decide(trail, watches, *d) {

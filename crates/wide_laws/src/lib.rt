@@ -121,7 +121,8 @@ pub fn names_fix_what_trees_fix()
 
 /// Sets with these bytes at the places of a group keep the group's test, and have its first bytes.
 pub fn agreeing_bytes_keep_the_test()
-    ensures keep { (places : List ℕ) (conditions : List term.Tree) (roots : List Signed) (frees : List Signed → Bool) (first : List ℕ) (sets : List (ℕ → Bool)) →
+    ensures keep { (places : List ℕ) (conditions : List term.Tree) (roots : List Signed) (frees : List Signed →
+        Bool) (first : List ℕ) (sets : List (ℕ → Bool)) →
         AreRoots places conditions roots → IsSound roots frees → AreBytes first → Hold conditions first →
         All (λ i. i < length sets) places →
         ((place : ℕ) → Contains places place → set_at sets place ≡ agreeing (fixed_bits frees first places) first place) →
