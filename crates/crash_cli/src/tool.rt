@@ -5,8 +5,10 @@ ghost use Rattle.std.specs.String.{string_bytes};
 ghost use Rattle.fault_io.specs.Faults.{Rose, NoFault};
 ghost use Rattle.crash_cli.specs.Refusals.{status, out_of, err_of, IsLineOf, IsGiven};
 ghost use Rattle.crash_cli.specs.Words.{make_of, make_value, AreWithin};
-ghost use Rattle.crash_cli.specs.Outcome.{told_answer, answer_to, made, outcome, trace, read_of};
-ghost use Rattle.crash_cli.specs.Call.{change, Gives, TakesLine, TakesNothing, Takes, TakesPrefix, HasFault, HasNoFault, IsReadFault, IsTrueBut, IsReadBut, IsCannotRead, IsStatusBut, IsAnswer};
+ghost use Rattle.crash_cli.specs.Outcome.{told_answer, answer_to, made, outcome, transcript_under, read_of};
+ghost use Rattle.crash_cli.specs.Call.{change, Gives, TakesLine, TakesNothing, Takes, TakesPrefix, HasFault};
+ghost use Rattle.crash_cli.specs.Call.{HasNoFault, IsReadFault, IsTrueBut, IsReadBut, IsCannotRead, IsStatusBut};
+ghost use Rattle.crash_cli.specs.Call.{IsAnswer};
 
 use crate::answer::{Answer, Refusal, Role};
 use crate::command::WordsError;
@@ -148,7 +150,7 @@ pub fn run_tool<F: Folder, O: Sink, E: Sink>(
         held make.program ≡ Some p → held make.input ≡ Some x →
         result ≢ 1 → NoFault (F.faults folder.old) (F.faults folder.new) →
         HasNoFault (change O.holds O.faults out.old out.new) → HasNoFault (change E.holds E.faults err.old err.new) →
-        Gives (outcome p make.options (length x) (trace p make.options x))
+        Gives (outcome p make.options (length x) (transcript_under p make.options x))
         (change O.holds O.faults out.old out.new) (change E.holds E.faults err.old err.new) result)) }
 {
     let answer = decide(alloc, words, folder);

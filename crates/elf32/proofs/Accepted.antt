@@ -6,7 +6,7 @@ use Rattle.elf32.specs.declared.header.Header.{Header}
 use Rattle.elf32.specs.Fields.{e_entry, headers}
 use Rattle.elf32.specs.Spans.{stack, overlap}
 use Rattle.elf32.specs.Rules.{refusal, segment_refusal, is_short, lacks_magic, has_other_class, has_other_encoding, has_other_type, has_other_machine, has_other_instructions, lacks_table, is_outside, spans_of, memory_size}
-use Rattle.elf32.specs.Loads.{segments_of, image_of}
+use Rattle.elf32.specs.Loads.{segments_of, loaded_program}
 use Rattle.elf32.proofs.Order.{in_order_permutes, in_order_rises}
 use Rattle.elf32.proofs.Kept.{Kept, kept}
 
@@ -56,11 +56,11 @@ accepted bytes none =
     let seven = others_kept (has_other_instructions bytes) _ _ six in
     keeps_rules (length bytes) (e_entry bytes) (headers bytes) (others_kept (lacks_table bytes) _ _ seven)
 
-pub entry_aligned : (bytes : List ℕ) → refusal bytes ≡ None → (image_of bytes).entry % 4 ≡ 0
+pub entry_aligned : (bytes : List ℕ) → refusal bytes ≡ None → (loaded_program bytes).entry % 4 ≡ 0
 entry_aligned bytes none = let k = accepted bytes none in k.aligned
 
-pub image_kept : (bytes : List ℕ) → refusal bytes ≡ None → Kept (image_of bytes).segments
+pub image_kept : (bytes : List ℕ) → refusal bytes ≡ None → Kept (loaded_program bytes).segments
 image_kept bytes none =
     let k = accepted bytes none in
     let found = segments_of bytes (headers bytes) in
-    kept bytes (headers bytes) found (image_of bytes).segments refl (in_order_permutes found) (in_order_rises found) k.inside k.apart k.small
+    kept bytes (headers bytes) found (loaded_program bytes).segments refl (in_order_permutes found) (in_order_rises found) k.inside k.apart k.small

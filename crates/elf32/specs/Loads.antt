@@ -36,11 +36,11 @@ abbrev pub program_of : Image → Program
 program_of image = record { entry = image.entry; segments = image.segments }
 
 -- what a file loads: its entry point, and its segments in ascending order of base
-abbrev pub image_of : List ℕ → Program
-image_of bytes = record { entry = e_entry bytes; segments = in_order (segments_of bytes (headers bytes)) }
+abbrev pub loaded_program : List ℕ → Program
+loaded_program bytes = record { entry = e_entry bytes; segments = in_order (segments_of bytes (headers bytes)) }
 
 -- the file breaks no rule, and the image is what it loads
 pub record IsImageOf (bytes : List ℕ) (image : Image) : Type 0 where
   pub unbroken : refusal bytes ≡ None
-  pub entry : image.entry ≡ (image_of bytes).entry
-  pub segments : image.segments ≡ (image_of bytes).segments
+  pub entry : image.entry ≡ (loaded_program bytes).entry
+  pub segments : image.segments ≡ (loaded_program bytes).segments

@@ -2,7 +2,7 @@
 
 ghost use Rattle.std.specs.Prelude.{◌≡◌, ◌+◌, ◌*◌, ◌≤◌, ◌<◌, length};
 ghost use Rattle.elf32.specs.declared.header.Header.{Header};
-ghost use Rattle.elf32.specs.Fields.{half_at, word_at, header_at, headers_at};
+ghost use Rattle.elf32.specs.Fields.{half_in, word_in, header_at, headers_at};
 
 use byteorder::{ByteOrder, LittleEndian};
 
@@ -53,17 +53,17 @@ pub const UNREAD: Header = Header {
 };
 
 /// The field of two bytes at a place.
-pub fn half_at(bytes: &[u8], place: usize) -> u16
+pub fn half_in(bytes: &[u8], place: usize) -> u16
     requires { place + 2 ≤ length bytes.now }
-    ensures { result ≡ half_at bytes.now place }
+    ensures { result ≡ half_in bytes.now place }
 {
     LittleEndian::read_u16(&bytes[place..])
 }
 
 /// The field of four bytes at a place.
-pub fn word_at(bytes: &[u8], place: usize) -> u32
+pub fn word_in(bytes: &[u8], place: usize) -> u32
     requires { place + 4 ≤ length bytes.now }
-    ensures { result ≡ word_at bytes.now place }
+    ensures { result ≡ word_in bytes.now place }
 {
     LittleEndian::read_u32(&bytes[place..])
 }
@@ -75,12 +75,12 @@ fn header_at(bytes: &[u8], place: usize) -> Header
     ensures { result ≡ header_at bytes.now place }
 {
     Header {
-        kind: word_at(bytes, place),
-        offset: word_at(bytes, place + 4),
-        vaddr: word_at(bytes, place + 8),
-        filesz: word_at(bytes, place + 16),
-        memsz: word_at(bytes, place + 20),
-        flags: word_at(bytes, place + 24),
+        kind: word_in(bytes, place),
+        offset: word_in(bytes, place + 4),
+        vaddr: word_in(bytes, place + 8),
+        filesz: word_in(bytes, place + 16),
+        memsz: word_in(bytes, place + 20),
+        flags: word_in(bytes, place + 24),
     }
 }
 

@@ -11,7 +11,7 @@ ghost use Rattle.elf32.specs.Loads.{segment_of, segments_of, in_order, IsImageOf
 
 use crate::bytes::Bytes;
 use crate::error::ElfError;
-use crate::header::{E_ENTRY, E_PHNUM, E_PHOFF, Header, UNREAD, half_at, read_headers, word_at};
+use crate::header::{E_ENTRY, E_PHNUM, E_PHOFF, Header, UNREAD, half_in, read_headers, word_in};
 use crate::image::Image;
 use crate::rules::{MOST_HEADERS, check_header, check_segments};
 use crate::segments::{Segment, Segments};
@@ -86,9 +86,9 @@ pub fn read_image(alloc: Global, bytes: &[u8]) -> Result<Image, ElfError>
     ensures memory { result ≡ Err ElfError.NoMemory → refusal bytes.now ≡ None }
 {
     check_header(bytes)?;
-    let entry = word_at(bytes, E_ENTRY);
-    let start = word_at(bytes, E_PHOFF) as usize;
-    let count = usize::from(half_at(bytes, E_PHNUM));
+    let entry = word_in(bytes, E_ENTRY);
+    let start = word_in(bytes, E_PHOFF) as usize;
+    let count = usize::from(half_in(bytes, E_PHNUM));
     let mut table = [UNREAD; MOST_HEADERS];
     read_headers(bytes, start, &mut table[..count]);
     let headers = &table[..count];

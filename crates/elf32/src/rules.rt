@@ -12,7 +12,7 @@ ghost use Rattle.elf32.specs.Rules.{is_outside, is_loaded, span_of, spans_of, me
 use crate::error::ElfError;
 use crate::header::{
     E_FLAGS, E_MACHINE, E_PHENTSIZE, E_PHNUM, E_PHOFF, E_TYPE, EI_CLASS, EI_DATA, FILE_HEADER_SIZE,
-    Header, PROGRAM_HEADER_SIZE, half_at, word_at,
+    Header, PROGRAM_HEADER_SIZE, half_in, word_in,
 };
 use crate::span::{Span, stack};
 
@@ -39,7 +39,7 @@ fn has_other_instructions(bytes: &[u8]) -> bool
     ensures { result ≡ has_other_instructions bytes.now }
 {
     // EF_RISCV_RVC is bit 0, EF_RISCV_RVE is bit 3
-    let flags = word_at(bytes, E_FLAGS);
+    let flags = word_in(bytes, E_FLAGS);
     flags % 2 == 1 || flags / 8 % 2 == 1
 }
 
@@ -48,9 +48,9 @@ fn lacks_table(bytes: &[u8]) -> bool
     requires { 52 ≤ length bytes.now }
     ensures { result ≡ lacks_table bytes.now }
 {
-    let count = usize::from(half_at(bytes, E_PHNUM));
-    let size = usize::from(half_at(bytes, E_PHENTSIZE));
-    let end = word_at(bytes, E_PHOFF) as usize + PROGRAM_HEADER_SIZE * count;
+    let count = usize::from(half_in(bytes, E_PHNUM));
+    let size = usize::from(half_in(bytes, E_PHENTSIZE));
+    let end = word_in(bytes, E_PHOFF) as usize + PROGRAM_HEADER_SIZE * count;
     count > MOST_HEADERS || count > 0 && (size != PROGRAM_HEADER_SIZE || end > bytes.len())
 }
 
@@ -80,11 +80,11 @@ pub fn check_header(bytes: &[u8]) -> Result<(), ElfError>
         return Err(ElfError::Data);
     }
     // ET_EXEC
-    if half_at(bytes, E_TYPE) != 2 {
+    if half_in(bytes, E_TYPE) != 2 {
         return Err(ElfError::Kind);
     }
     // EM_RISCV
-    if half_at(bytes, E_MACHINE) != 243 {
+    if half_in(bytes, E_MACHINE) != 243 {
         return Err(ElfError::Machine);
     }
     if has_other_instructions(bytes) {

@@ -9,7 +9,7 @@ use Rattle.rv_event.specs.declared.event.Event.{Event}
 use Rattle.rv_event.proofs.SameLemmas.{same_transcript-Decides}
 use Rattle.rv_machine.specs.State.{State, Next, Goes, Ends, start}
 use Rattle.rv_machine.specs.Effects.{effect, executed, after_fetch, step}
-use Rattle.rv_machine.specs.Trace.{Run, trace, onward, with_event, run_of, transcript_of}
+use Rattle.rv_machine.specs.Trace.{Trace, trace_from, onward, with_event, trace_of_program, transcript_of}
 use Rattle.rv_machine.specs.Class.{in_class}
 use Rattle.machine_laws.specs.Calls.{IsNoCall}
 
@@ -47,23 +47,23 @@ head_holds e es h = h 0 e (omega arith)
 tail_holds : (e : Event) (es : List Event) → All IsNoCall (e ∷ es) → All IsNoCall es
 tail_holds e es h = λ k d l. h (suc k) d (omega arith)
 
-onward_blind : (f g : State → Run) (next : Next) → ((s : State) → All IsNoCall (f s).events → g s ≡ f s) → All IsNoCall (onward f next).events → onward g next ≡ onward f next
+onward_blind : (f g : State → Trace) (next : Next) → ((s : State) → All IsNoCall (f s).events → g s ≡ f s) → All IsNoCall (onward f next).events → onward g next ≡ onward f next
 onward_blind f g (Goes s) same h = same s h
 onward_blind f g (Ends e) same h = refl
 
 -- a run without calls is the same on every input
-pub trace_blind : (n : ℕ) (x y : List ℕ) (s : State) → All IsNoCall (trace n x s).events → trace n y s ≡ trace n x s
-unfolding trace
+pub trace_blind : (n : ℕ) (x y : List ℕ) (s : State) → All IsNoCall (trace_from n x s).events → trace_from n y s ≡ trace_from n x s
+unfolding trace_from
 trace_blind zero x y s h = refl
 trace_blind (suc n) x y s h =
-    ap (λ o. with_event o.event (onward (trace n y) o.next)) (step_blind x y s (head_holds (step x s).event (onward (trace n x) (step x s).next).events h))
-    ∙ ap (with_event (step x s).event) (onward_blind (trace n x) (trace n y) (step x s).next (λ t k. trace_blind n x y t k) (tail_holds (step x s).event (onward (trace n x) (step x s).next).events h))
+    ap (λ o. with_event o.event (onward (trace_from n y) o.next)) (step_blind x y s (head_holds (step x s).event (onward (trace_from n x) (step x s).next).events h))
+    ∙ ap (with_event (step x s).event) (onward_blind (trace_from n x) (trace_from n y) (step x s).next (λ t k. trace_blind n x y t k) (tail_holds (step x s).event (onward (trace_from n x) (step x s).next).events h))
 
 -- and so is what it tells
 pub transcript_blind : (program : Program) (limit : ℕ) (x y : List ℕ) → length x ≡ length y → All IsNoCall (transcript_of program x limit).events → transcript_of program y limit ≡ transcript_of program x limit
 unfolding transcript_of
 transcript_blind program limit x y l h =
-    let run : run_of program y limit ≡ run_of program x limit = trace_blind limit x y (start program.entry program.segments) h in
+    let run : trace_of_program program y limit ≡ trace_of_program program x limit = trace_blind limit x y (start program.entry program.segments) h in
     (λ i. record { n = sym l i; events = (run i).events; end = (run i).end })
 
 pub class_blind : (program : Program) (limit : ℕ) (x y : List ℕ) → length x ≡ length y → All IsNoCall (transcript_of program x limit).events → IsTrue (in_class program limit (transcript_of program x limit) y)

@@ -13,7 +13,7 @@ use Rattle.rv_event.specs.declared.event.TrapKind.TheVariants as traps
 use Rattle.rv_machine.specs.State.{State, Next, Goes, Ends, reg, write_reg, at, following, bits, trap, start}
 use Rattle.rv_machine.specs.Calls.{Reply, Answers, Moves, Breaks, Exits, reply_to}
 use Rattle.rv_machine.specs.Effects.{jump, exit, taken, size_of, address_of, even, after_load, after_store, after_call, effect, executed, after_fetch, step}
-use Rattle.rv_machine.specs.Trace.{onward, trace, transcript_of}
+use Rattle.rv_machine.specs.Trace.{onward, trace_from, transcript_of}
 
 -- an end that is no exit with a code of 128 or more
 abbrev IsLow : End → Type 0
@@ -81,20 +81,20 @@ step_low : (x : List ℕ) (s : State) → GivesLow (step x s).next
 unfolding step
 step_low x s = fetch_low x s (first_without execute s.memory s.pc 4)
 
-onward_low : (n : ℕ) (x : List ℕ) (next : Next) → ((s : State) → IsLow (trace n x s).end) → GivesLow next → IsLow (onward (trace n x) next).end
+onward_low : (n : ℕ) (x : List ℕ) (next : Next) → ((s : State) → IsLow (trace_from n x s).end) → GivesLow next → IsLow (onward (trace_from n x) next).end
 onward_low n x (Goes s) further h = further s
 onward_low n x (Ends e) further h = h
 
-trace_low : (n : ℕ) (x : List ℕ) (s : State) → IsLow (trace n x s).end
-unfolding trace
+trace_low : (n : ℕ) (x : List ℕ) (s : State) → IsLow (trace_from n x s).end
+unfolding trace_from
 trace_low zero x s = tt
 trace_low (suc n) x s = onward_low n x (step x s).next (trace_low n x) (step_low x s)
 
 low_code : (e : End) (code : ℕ) → IsLow e → e ≡ ends.Exit code → code < 128
 low_code e code l h = subst IsLow h l
 
-pub exit_of_run : (x : List ℕ) (s : State) (limit code : ℕ) → (trace limit x s).end ≡ ends.Exit code → code < 128
-exit_of_run x s limit code h = low_code (trace limit x s).end code (trace_low limit x s) h
+pub exit_of_run : (x : List ℕ) (s : State) (limit code : ℕ) → (trace_from limit x s).end ≡ ends.Exit code → code < 128
+exit_of_run x s limit code h = low_code (trace_from limit x s).end code (trace_low limit x s) h
 
 pub exit_of_program : (program : Program) (x : List ℕ) (limit code : ℕ) → (transcript_of program x limit).end ≡ ends.Exit code → code < 128
 unfolding transcript_of

@@ -7,7 +7,7 @@ ghost use Rattle.elf32.specs.declared.segments.Segment.{Segment};
 ghost use Rattle.rv_event.specs.declared.event.End.TheVariants as ends;
 ghost use Rattle.rv_machine.specs.State.{State, start};
 ghost use Rattle.rv_machine.specs.Effects.{step};
-ghost use Rattle.rv_machine.specs.Trace.{trace, transcript_of};
+ghost use Rattle.rv_machine.specs.Trace.{trace_from, transcript_of};
 ghost use Rattle.rv_machine.specs.Class.{in_class};
 ghost use Rattle.machine_laws.specs.Calls.{IsNoCall};
 ghost use Rattle.machine_laws.specs.Kept.{IsState, Keeps};
@@ -38,7 +38,7 @@ pub fn starts_in_state()
 /// An exit that a run ends with has a code below 128, from whatever state the run starts.
 pub fn exits_are_below_128()
     ensures run { (input : List ℕ) (s : State) (limit code : ℕ) →
-        (trace limit input s).end ≡ ends.Exit code → code < 128 }
+        (trace_from limit input s).end ≡ ends.Exit code → code < 128 }
     ensures program { (program : Program) (input : List ℕ) (limit code : ℕ) →
         (transcript_of program input limit).end ≡ ends.Exit code → code < 128 }
 {}

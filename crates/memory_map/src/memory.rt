@@ -1,10 +1,12 @@
 //! The memory of a machine.
 
-ghost use Rattle.std.specs.Prelude.{◌≡◌, ℕ, ◌+◌, ◌<◌, ◌≤◌, ◌^◌, Some, None, IfSome, IfNone, IfOk, OnOk, OnErr, if◌then◌else◌, length, map, replicate, ◌++◌};
+ghost use Rattle.std.specs.Prelude.{◌≡◌, ℕ, ◌+◌, ◌<◌, ◌≤◌, ◌^◌, Some, None, IfSome, IfNone, IfOk, OnOk, OnErr};
+ghost use Rattle.std.specs.Prelude.{if◌then◌else◌, length, map, replicate, ◌++◌};
 ghost use Rattle.std.specs.Bool.{OnTrue};
 ghost use Rattle.std.specs.FinMap as finmap;
 ghost use Rattle.elf32.specs.Segments.{AreSized};
-ghost use Rattle.memory_map.specs.Cells.{read, write, byte_at, half_at, word_at, fetched, can, all_can, first_without, ok_unless, with_byte, placed, start_map, cells_from, stack_cells};
+ghost use Rattle.memory_map.specs.Cells.{read, write, byte_at, half_at, word_at, fetched, can, all_can, first_without};
+ghost use Rattle.memory_map.specs.Cells.{ok_unless, with_byte, placed, start_map, cells_from, stack_cells};
 ghost use Rattle.memory_map.specs.Layout.{CanFrom, IsPartAt, IsRun, part_of, heap_parts};
 ghost use Rattle.memory_map.specs.Heaps.{break_answer, after_break, start_heap};
 

@@ -68,7 +68,8 @@ fn same_byte(arena: &mut Arena, a: Term, b: Term, k: u8) -> Result<Term, NoMemor
 fn low_byte_is(arena: &mut Arena, sum: Term, target: u32) -> Result<Term, NoMemory>
     requires belongs { sum < length arena.old }
     requires normal { IsNormal (tree_of arena.old sum) }
-    ensures made { IfOk result (IsNormalTermOf arena.new (norm Eq (norm (Alu And) (shape.byte_term norm 0 (tree_of arena.old sum)) (Const 254)) (Const (byte_number 0 target)))) }
+    ensures made { IfOk result (IsNormalTermOf arena.new (norm Eq (norm (Alu And) (shape.byte_term norm 0
+        (tree_of arena.old sum)) (Const 254)) (Const (byte_number 0 target)))) }
     ensures keeps { Extends arena.old arena.new }
 {
     let byte = byte_term(arena, sum, 0)?;

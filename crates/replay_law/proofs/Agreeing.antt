@@ -16,7 +16,7 @@ use Rattle.memory_map.specs.Layout.{is_among}
 use Rattle.memory_map.proofs.Heaps.{get-with_break}
 use Rattle.rv_machine.specs.State.{State, reg, written}
 use Rattle.rv_machine.specs.Calls.{Answers, Moves, Exits, if_none, break_reply, reply_to}
-use Rattle.replay_law.specs.Terms.{Terms, reg_term, written_term, with_tree, put_trees, zero_between}
+use Rattle.replay_law.specs.Terms.{SymbolicState, reg_term, written_term, with_tree, put_trees, zero_between}
 use Rattle.replay_law.proofs.Agreement.{cell_with, Agrees}
 
 -- ---- rights
@@ -31,7 +31,7 @@ can_with right byte None = refl
 can_with right byte (Some cell) = refl
 
 -- a state that agrees with terms has the rights of their cells
-pub same_rights : {terms : Terms} {y : List ℕ} {s : State} → Agrees terms y s → HaveSameRights s.memory terms.cells
+pub same_rights : {terms : SymbolicState} {y : List ℕ} {s : State} → Agrees terms y s → HaveSameRights s.memory terms.cells
 same_rights {terms} {y} {s} ag = record {
   here = λ right a. ap (can right) (ag.memory a) ∙ can_with right (val (terms.bytes a) y) (get terms.cells a);
 }
@@ -89,14 +89,14 @@ byte_with right byte None h = absurd (false≢true h)
 byte_with right byte (Some cell) h = refl
 
 -- the byte at an address with a right is the value of its term
-pub byte_is_value : {terms : Terms} {y : List ℕ} {s : State} → Agrees terms y s → (right a : ℕ) → can right (get s.memory a) ≡ true → byte_at s.memory a ≡ val (terms.bytes a) y
+pub byte_is_value : {terms : SymbolicState} {y : List ℕ} {s : State} → Agrees terms y s → (right a : ℕ) → can right (get s.memory a) ≡ true → byte_at s.memory a ≡ val (terms.bytes a) y
 byte_is_value {terms} {y} {s} ag right a h =
     ap byte_of_cell (ag.memory a) ∙ byte_with right (val (terms.bytes a) y) (get terms.cells a) (sym ((same_rights ag).here right a) ∙ h)
 
 -- ---- registers
 
 -- the value of a register is that of its term
-pub reg_value : {terms : Terms} {y : List ℕ} {s : State} → Agrees terms y s → (r : ℕ) → reg s r ≡ val (reg_term terms r) y
+pub reg_value : {terms : SymbolicState} {y : List ℕ} {s : State} → Agrees terms y s → (r : ℕ) → reg s r ≡ val (reg_term terms r) y
 reg_value {terms} {y} {s} ag r = ap (λ rs. get_or rs r 0) ag.registers ∙ get_or-map (λ t. val t y) terms.registers r (Const 0)
 
 -- a list after a write, by the test for x0
@@ -105,7 +105,7 @@ write_if true rd v t y ts e = refl
 write_if false rd v t y ts e = ap (set (map (λ u. val u y) ts) rd) e ∙ sym (map-set (λ u. val u y) ts rd t)
 
 -- registers after a write are the values of the terms after it
-pub written_value : {terms : Terms} {y : List ℕ} {s : State} → Agrees terms y s → (rd v : ℕ) (t : Tree) → v ≡ val t y → written rd v s.registers ≡ map (λ u. val u y) (written_term rd t terms.registers)
+pub written_value : {terms : SymbolicState} {y : List ℕ} {s : State} → Agrees terms y s → (rd v : ℕ) (t : Tree) → v ≡ val t y → written rd v s.registers ≡ map (λ u. val u y) (written_term rd t terms.registers)
 written_value {terms} {y} {s} ag rd v t e = ap (written rd v) ag.registers ∙ write_if (rd == 0) rd v t y terms.registers e
 
 -- ---- memory

@@ -15,7 +15,7 @@ use Rattle.rv_decode.specs.declared.instr.Cond.{Cond}
 use Rattle.rv_decode.specs.declared.instr.Cond.TheVariants as conds
 use Rattle.rv_machine.specs.Effects.{taken}
 use Rattle.replay_law.specs.Making.{Making, IsMaker}
-use Rattle.replay_law.specs.Forms.{byte_term, same_byte, byte_is, equal, bytes_are, difference, pin, target_bytes, target, fails, outcome}
+use Rattle.replay_law.specs.Forms.{byte_term, same_byte, byte_is, equal, bytes_are, difference, pin, target_bytes, target, fails, branch_conditions}
 
 -- the test of equal numbers is 1
 pub truth_one : (a b : ℕ) → a ≡ b → from_bool (nat_eq a b) ≡ 1
@@ -247,7 +247,7 @@ true_give : (y : List ℕ) (t : Tree) (b : Bool) → val t y ≡ from_bool b →
 true_give y t b e h = truth_true b (sym e ∙ first_holds y t [] h)
 
 -- the conditions of a branch hold where it has the outcome
-pub outcome_holds : {made : Making} {IsMade : Tree → Type 0} → IsMaker made IsMade → (y : List ℕ) → AreBytes y → (c : Cond) (a b : Tree) (t : Bool) → IsMade a → IsMade b → taken c (val a y) (val b y) ≡ t → Hold (outcome made c a b t) y
+pub outcome_holds : {made : Making} {IsMade : Tree → Type 0} → IsMaker made IsMade → (y : List ℕ) → AreBytes y → (c : Cond) (a b : Tree) (t : Bool) → IsMade a → IsMade b → taken c (val a y) (val b y) ≡ t → Hold (branch_conditions made c a b t) y
 outcome_holds m y bs conds.Eq a b true ia ib e = equal_holds m y bs a b ia ib (eqb-true _ _ e)
 outcome_holds m y bs conds.Eq a b false ia ib e = fails_hold m y bs _ _ (m.gives Eq a b ia ib tt) (m.keeps Eq a b y ia ib tt bs) e
 outcome_holds m y bs conds.Ne a b true ia ib e = fails_hold m y bs _ _ (m.gives Eq a b ia ib tt) (m.keeps Eq a b y ia ib tt bs) (not-true _ e)
@@ -262,7 +262,7 @@ outcome_holds m y bs conds.Geu a b true ia ib e = fails_hold m y bs _ _ (m.gives
 outcome_holds {made} m y bs conds.Geu a b false ia ib e = true_hold y (made (Alu Sltu) a b) _ (m.keeps (Alu Sltu) a b y ia ib tt bs) (not-false _ e)
 
 -- and the converse
-pub outcome_gives : {made : Making} {IsMade : Tree → Type 0} → IsMaker made IsMade → (y : List ℕ) → AreBytes y → (c : Cond) (a b : Tree) (t : Bool) → IsMade a → IsMade b → Hold (outcome made c a b t) y → taken c (val a y) (val b y) ≡ t
+pub outcome_gives : {made : Making} {IsMade : Tree → Type 0} → IsMaker made IsMade → (y : List ℕ) → AreBytes y → (c : Cond) (a b : Tree) (t : Bool) → IsMade a → IsMade b → Hold (branch_conditions made c a b t) y → taken c (val a y) (val b y) ≡ t
 outcome_gives m y bs conds.Eq a b true ia ib h = eq-eqb _ _ (equal_gives m y bs a b ia ib h)
 outcome_gives m y bs conds.Eq a b false ia ib h = fails_give m y bs _ _ (m.gives Eq a b ia ib tt) (m.keeps Eq a b y ia ib tt bs) h
 outcome_gives m y bs conds.Ne a b true ia ib h = ap not (fails_give m y bs _ _ (m.gives Eq a b ia ib tt) (m.keeps Eq a b y ia ib tt bs) h)

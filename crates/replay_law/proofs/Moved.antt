@@ -15,7 +15,7 @@ use Rattle.rv_machine.specs.State.{State}
 use Rattle.rv_machine.specs.Effects.{size_of, loaded, stored, input_bytes}
 use Rattle.replay_law.specs.Making.{Making, IsMaker}
 use Rattle.replay_law.specs.Forms.{byte_term}
-use Rattle.replay_law.specs.Terms.{Terms, input_terms, extended_term, half_term, loaded_term, stored_terms}
+use Rattle.replay_law.specs.Terms.{SymbolicState, input_terms, extended_term, half_term, loaded_term, stored_terms}
 use Rattle.replay_law.proofs.Held.{byte_value, byte_made, byte_below}
 use Rattle.replay_law.proofs.Agreeing.{byte_is_value, can_here, can_next, Each}
 use Rattle.replay_law.proofs.Extended.{extended_byte, extended_half}
@@ -68,7 +68,7 @@ below_half : (a b : ℕ) → a < 256 → b < 256 → a + 256 * b < 65536
 below_half a b h k = omega arith
 
 -- the word at an address whose bytes have a right
-pub word_value : {terms : Terms} {y : List ℕ} {s : State} → Agrees terms y s → (right a : ℕ) → first_without right s.memory a 4 ≡ None → word_at s.memory a ≡ val (terms.bytes a) y + 256 * val (terms.bytes (next_address a)) y + 65536 * val (terms.bytes (next_address (next_address a))) y + 16777216 * val (terms.bytes (next_address (next_address (next_address a)))) y
+pub word_value : {terms : SymbolicState} {y : List ℕ} {s : State} → Agrees terms y s → (right a : ℕ) → first_without right s.memory a 4 ≡ None → word_at s.memory a ≡ val (terms.bytes a) y + 256 * val (terms.bytes (next_address a)) y + 65536 * val (terms.bytes (next_address (next_address a))) y + 16777216 * val (terms.bytes (next_address (next_address (next_address a)))) y
 word_value {terms} {y} {s} ag right a ok =
     let p : first_without right s.memory (next_address a) 3 ≡ None = can_next right s.memory a 3 ok in
     let q : first_without right s.memory (next_address (next_address a)) 2 ≡ None = can_next right s.memory (next_address a) 2 p in
@@ -79,7 +79,7 @@ word_value {terms} {y} {s} ag right a ok =
     + 16777216 * byte_is_value ag right (next_address (next_address (next_address a))) (can_here right s.memory (next_address (next_address (next_address a))) 0 r) i)
 
 -- what a load gives has the value that the machine loads
-pub loaded_value : {made : Making} {IsMade : Tree → Type 0} → IsMaker made IsMade → {terms : Terms} {y : List ℕ} {s : State} → AreBytes y → Agrees terms y s → ((a : ℕ) → IsByte IsMade (terms.bytes a)) → (width : Width) (a : ℕ) → first_without read s.memory a (size_of width) ≡ None → loaded s.memory width a ≡ val (loaded_term made terms.bytes width a) y
+pub loaded_value : {made : Making} {IsMade : Tree → Type 0} → IsMaker made IsMade → {terms : SymbolicState} {y : List ℕ} {s : State} → AreBytes y → Agrees terms y s → ((a : ℕ) → IsByte IsMade (terms.bytes a)) → (width : Width) (a : ℕ) → first_without read s.memory a (size_of width) ≡ None → loaded s.memory width a ≡ val (loaded_term made terms.bytes width a) y
 loaded_value m {terms} {y} {s} bs ag h widths.B a ok =
     let e = byte_is_value ag read a (can_here read s.memory a 0 ok) in
     ap (λ b. cast_unsigned w32 (sign_extended 8 b)) e

@@ -26,9 +26,9 @@ use Rattle.memory_map.specs.Heaps.{may_break, with_break}
 use Rattle.rv_machine.specs.State.{bits, following, start_registers}
 use Rattle.rv_machine.specs.Calls.{Reply, Answers, Moves, Breaks, Exits, if_none, break_reply, reply_to}
 use Rattle.replay_law.specs.Making.{Making, IsMaker, IsConstant, IsTruthOrConstant, IsCarefulMaker}
-use Rattle.replay_law.specs.Forms.{byte_term, equal, bytes_are, difference, pin, target_bytes, target, fails, outcome, with_condition, with_conditions}
-use Rattle.replay_law.specs.Terms.{Terms, reg_term, put_reg, put_trees, zero_between, input_terms, extended_term, half_term, loaded_term, stored_terms, sum_term, call_value, after_reply, after_row, after_instr, terms_after, start_terms}
-use Rattle.replay_law.specs.Follow.{fetched_byte, fetch_conditions, row_conditions, instr_conditions, conditions_by, conditions_of}
+use Rattle.replay_law.specs.Forms.{byte_term, equal, bytes_are, difference, pin, target_bytes, target, fails, branch_conditions, with_condition, with_conditions}
+use Rattle.replay_law.specs.Terms.{SymbolicState, reg_term, put_reg, put_trees, zero_between, input_terms, extended_term, half_term, loaded_term, stored_terms, sum_term, call_value, after_reply, after_row, after_instr, terms_after, start_terms}
+use Rattle.replay_law.specs.Follow.{fetched_byte, fetch_conditions, row_conditions, instr_conditions, conditions_by, event_conditions}
 use Rattle.replay_law.proofs.Held.{byte_made, byte_below}
 use Rattle.replay_law.proofs.Agreeing.{Each, written_keeps, put_keeps, zero_keeps}
 use Rattle.replay_law.proofs.Stepping.{bits_below}
@@ -45,7 +45,7 @@ pub record IsNew (IsMade : Tree → Type 0) (n : ℕ) (t : Tree) : Type 0 where
   pub within : ReadsBelow n t
 
 -- terms that read only places below n, with the input place among them or at the end
-pub record ReadWithin (n : ℕ) (terms : Terms) : Type 0 where
+pub record ReadWithin (n : ℕ) (terms : SymbolicState) : Type 0 where
   pub registers : (r : ℕ) → ReadsBelow n (reg_term terms r)
   pub bytes : (a : ℕ) → ReadsBelow n (terms.bytes a)
   pub place : terms.place ≤ n
@@ -108,7 +108,7 @@ new_fails : {made : Making} {IsMade : Tree → Type 0} → IsMaker made IsMade �
 new_fails m c n t it rt = (new_equal m c n t (Const 0) it (m.constant 0 (omega arith)) rt tt, tt)
 
 -- the conditions of a branch
-new_outcome : {made : Making} {IsMade : Tree → Type 0} → IsMaker made IsMade → IsCarefulMaker made IsMade → (n : ℕ) (cond : Cond) (a b : Tree) (t : Bool) → IsMade a → IsMade b → ReadsBelow n a → ReadsBelow n b → Each (IsNew IsMade n) (outcome made cond a b t)
+new_outcome : {made : Making} {IsMade : Tree → Type 0} → IsMaker made IsMade → IsCarefulMaker made IsMade → (n : ℕ) (cond : Cond) (a b : Tree) (t : Bool) → IsMade a → IsMade b → ReadsBelow n a → ReadsBelow n b → Each (IsNew IsMade n) (branch_conditions made cond a b t)
 new_outcome {made} {IsMade} m c n cond a b t ia ib ra rb = by_case cond t
   where
     no_equal : Each (IsNew IsMade n) (fails made (made Eq a b))
@@ -126,7 +126,7 @@ new_outcome {made} {IsMade} m c n cond a b t ia ib ra rb = by_case cond t
     is_below : Each (IsNew IsMade n) (made (Alu Sltu) a b ∷ [])
     is_below = (record { made = m.gives (Alu Sltu) a b ia ib tt; truth = c.below a b ia ib; within = c.places n (Alu Sltu) a b ra rb }, tt)
 
-    by_case : (d : Cond) (u : Bool) → Each (IsNew IsMade n) (outcome made d a b u)
+    by_case : (d : Cond) (u : Bool) → Each (IsNew IsMade n) (branch_conditions made d a b u)
     by_case conds.Eq true = new_same m c n a b ia ib ra rb
     by_case conds.Eq false = no_equal
     by_case conds.Ne true = no_equal
@@ -141,7 +141,7 @@ new_outcome {made} {IsMade} m c n cond a b t ia ib ra rb = by_case cond t
     by_case conds.Geu false = is_below
 
 -- the conditions of an instruction
-new_row : {made : Making} {IsMade : Tree → Type 0} → IsMaker made IsMade → IsCarefulMaker made IsMade → (n : ℕ) (s : Terms) → AreMade IsMade s → ReadWithin n s → (e : Event) (shown : ℕ) (i : Instr) → Each (IsNew IsMade n) (row_conditions made s e shown i)
+new_row : {made : Making} {IsMade : Tree → Type 0} → IsMaker made IsMade → IsCarefulMaker made IsMade → (n : ℕ) (s : SymbolicState) → AreMade IsMade s → ReadWithin n s → (e : Event) (shown : ℕ) (i : Instr) → Each (IsNew IsMade n) (row_conditions made s e shown i)
 new_row {made} {IsMade} m c n s h w e shown i = by_row i
   where
     sum_made : (rs1 imm : ℕ) → imm < 2 ^ 32 → IsMade (sum_term made s rs1 imm)
@@ -156,7 +156,7 @@ new_row {made} {IsMade} m c n s h w e shown i = by_row i
     by_row : (i : Instr) → Each (IsNew IsMade n) (row_conditions made s e shown i)
     by_row (Jalr rd rs1 imm) = new_target m c n (sum_term made s rs1 (bits imm)) shown (sum_made rs1 (bits imm) (bits_below imm)) (sum_reads rs1 (bits imm))
     by_row (Branch cond rs1 rs2 offset) =
-        each_if (IsNew IsMade n) ((e.pc + bits offset) % 2 ^ 32 == following e.pc) [] (outcome made cond (reg_term s rs1) (reg_term s rs2) (shown == (e.pc + bits offset) % 2 ^ 32))
+        each_if (IsNew IsMade n) ((e.pc + bits offset) % 2 ^ 32 == following e.pc) [] (branch_conditions made cond (reg_term s rs1) (reg_term s rs2) (shown == (e.pc + bits offset) % 2 ^ 32))
         tt (new_outcome m c n cond (reg_term s rs1) (reg_term s rs2) (shown == (e.pc + bits offset) % 2 ^ 32) (h.registers rs1) (h.registers rs2) (w.registers rs1) (w.registers rs2))
     by_row (Load width rd rs1 imm) = new_pin m c n (sum_term made s rs1 (bits imm)) e.addr (sum_made rs1 (bits imm) (bits_below imm)) (sum_reads rs1 (bits imm))
     by_row (Store width rs1 rs2 imm) = new_pin m c n (sum_term made s rs1 (bits imm)) e.addr (sum_made rs1 (bits imm) (bits_below imm)) (sum_reads rs1 (bits imm))
@@ -173,20 +173,20 @@ new_row {made} {IsMade} m c n s h w e shown i = by_row i
     by_row Ebreak = tt
 
 -- the conditions of a word that may be illegal
-new_instr : {made : Making} {IsMade : Tree → Type 0} → IsMaker made IsMade → IsCarefulMaker made IsMade → (n : ℕ) (s : Terms) → AreMade IsMade s → ReadWithin n s → (e : Event) (shown : ℕ) (o : Option Instr) → Each (IsNew IsMade n) (instr_conditions made s e shown o)
+new_instr : {made : Making} {IsMade : Tree → Type 0} → IsMaker made IsMade → IsCarefulMaker made IsMade → (n : ℕ) (s : SymbolicState) → AreMade IsMade s → ReadWithin n s → (e : Event) (shown : ℕ) (o : Option Instr) → Each (IsNew IsMade n) (instr_conditions made s e shown o)
 new_instr m c n s h w e shown None = tt
 new_instr m c n s h w e shown (Some i) = new_row m c n s h w e shown i
 
 -- the conditions of a fetched word
-new_fetch : {made : Making} {IsMade : Tree → Type 0} → IsMaker made IsMade → IsCarefulMaker made IsMade → (n : ℕ) (s : Terms) → AreMade IsMade s → ReadWithin n s → (a word : ℕ) → Each (IsNew IsMade n) (fetch_conditions made s a word)
+new_fetch : {made : Making} {IsMade : Tree → Type 0} → IsMaker made IsMade → IsCarefulMaker made IsMade → (n : ℕ) (s : SymbolicState) → AreMade IsMade s → ReadWithin n s → (a word : ℕ) → Each (IsNew IsMade n) (fetch_conditions made s a word)
 new_fetch {made} {IsMade} m c n s h w a word = (one a 0, (one _ 1, (one _ 2, (one _ 3, tt))))
   where
     one : (a k : ℕ) → IsNew IsMade n (fetched_byte made s a word k)
     one a k = new_equal m c n (s.bytes a) (Const (byte_of k word)) (h.bytes a) (const_made m k word) (w.bytes a) tt
 
 -- the conditions of an event
-pub new_conditions : {made : Making} {IsMade : Tree → Type 0} → IsMaker made IsMade → IsCarefulMaker made IsMade → (n : ℕ) (s : Terms) → AreMade IsMade s → ReadWithin n s → (e : Event) (shown : ℕ) → Each (IsNew IsMade n) (conditions_of made s e shown)
-unfolding conditions_of
+pub new_conditions : {made : Making} {IsMade : Tree → Type 0} → IsMaker made IsMade → IsCarefulMaker made IsMade → (n : ℕ) (s : SymbolicState) → AreMade IsMade s → ReadWithin n s → (e : Event) (shown : ℕ) → Each (IsNew IsMade n) (event_conditions made s e shown)
+unfolding event_conditions
 new_conditions {made} {IsMade} m c n s h w e shown = by_kind e.kind
   where
     all : Each (IsNew IsMade n) (fetch_conditions made s e.pc e.word ++ instr_conditions made s e shown (decoded e.word))
@@ -202,11 +202,11 @@ new_conditions {made} {IsMade} m c n s h w e shown = by_kind e.kind
 -- ---- the terms after an event
 
 -- a register takes a term that reads only the input
-put_within : {n : ℕ} {s : Terms} → ReadWithin n s → (rd : ℕ) (t : Tree) → ReadsBelow n t → ReadWithin n (put_reg rd t s)
+put_within : {n : ℕ} {s : SymbolicState} → ReadWithin n s → (rd : ℕ) (t : Tree) → ReadsBelow n t → ReadWithin n (put_reg rd t s)
 put_within {n} {s} h rd t rt = record { registers = λ r. written_keeps (ReadsBelow n) s.registers rd r t rt (h.registers r); bytes = h.bytes; place = h.place }
 
 -- memory takes such terms
-moved_within : {n : ℕ} {s : Terms} → ReadWithin n s → (a place : ℕ) (ts : List Tree) → place ≤ n → Each (ReadsBelow n) ts → ReadWithin n (record { registers = s.registers; bytes = put_trees s.bytes a ts; place = place; cells = s.cells; heap = s.heap })
+moved_within : {n : ℕ} {s : SymbolicState} → ReadWithin n s → (a place : ℕ) (ts : List Tree) → place ≤ n → Each (ReadsBelow n) ts → ReadWithin n (record { registers = s.registers; bytes = put_trees s.bytes a ts; place = place; cells = s.cells; heap = s.heap })
 moved_within {n} {s} h a place ts le each = record { registers = h.registers; bytes = put_keeps (ReadsBelow n) s.bytes a ts h.bytes each; place = le }
 
 -- the bytes of the input that a read moves
@@ -247,7 +247,7 @@ reply_left m heap left a7 a0 a1 a2 =
     (either_left left (a7 == 214) (break_reply heap a0) (Answers (2 ^ 32 - 38)) (break_left heap left a0) tt)))
 
 -- the terms after a call
-reply_within : {n : ℕ} {s : Terms} → ReadWithin n s → (e : Event) (r : Reply) → IsLeft (n - s.place) r → ReadWithin n (after_reply s e r)
+reply_within : {n : ℕ} {s : SymbolicState} → ReadWithin n s → (e : Event) (r : Reply) → IsLeft (n - s.place) r → ReadWithin n (after_reply s e r)
 reply_within h e (Answers v) l = put_within h 10 (Const v) tt
 reply_within {n} {s} h e (Moves k) l =
     let place : s.place ≤ n = h.place in
@@ -257,7 +257,7 @@ reply_within {n} {s} h e (Breaks b a) l =
 reply_within h e (Exits code) l = h
 
 -- the terms after an instruction
-row_within : {made : Making} {IsMade : Tree → Type 0} → IsCarefulMaker made IsMade → (n : ℕ) (s : Terms) → ReadWithin n s → (e : Event) (i : Instr) → ReadWithin n (after_row made n s e i)
+row_within : {made : Making} {IsMade : Tree → Type 0} → IsCarefulMaker made IsMade → (n : ℕ) (s : SymbolicState) → ReadWithin n s → (e : Event) (i : Instr) → ReadWithin n (after_row made n s e i)
 row_within {made} c n s h e i = by_row i
   where
     byte : (k : ℕ) (t : Tree) → ReadsBelow n t → ReadsBelow n (byte_term made k t)
@@ -298,12 +298,12 @@ row_within {made} c n s h e i = by_row i
     by_row Ebreak = h
 
 -- the terms after a word that may be illegal
-instr_within : {made : Making} {IsMade : Tree → Type 0} → IsCarefulMaker made IsMade → (n : ℕ) (s : Terms) → ReadWithin n s → (e : Event) (o : Option Instr) → ReadWithin n (after_instr made n s e o)
+instr_within : {made : Making} {IsMade : Tree → Type 0} → IsCarefulMaker made IsMade → (n : ℕ) (s : SymbolicState) → ReadWithin n s → (e : Event) (o : Option Instr) → ReadWithin n (after_instr made n s e o)
 instr_within c n s h e None = h
 instr_within c n s h e (Some i) = row_within c n s h e i
 
 -- the terms after an event
-pub after_within : {made : Making} {IsMade : Tree → Type 0} → IsCarefulMaker made IsMade → (n : ℕ) (s : Terms) → ReadWithin n s → (e : Event) → ReadWithin n (terms_after made n s e)
+pub after_within : {made : Making} {IsMade : Tree → Type 0} → IsCarefulMaker made IsMade → (n : ℕ) (s : SymbolicState) → ReadWithin n s → (e : Event) → ReadWithin n (terms_after made n s e)
 unfolding terms_after
 after_within c n s h e = instr_within c n s h e (decoded e.word)
 

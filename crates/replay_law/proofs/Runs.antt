@@ -10,15 +10,15 @@ use Rattle.memory_map.specs.Cells.{Cell, byte_at, byte_of_cell, start_map}
 use Rattle.memory_map.proofs.HeapStarts.{start_break}
 use Rattle.rv_machine.specs.State.{State, Next, Goes, Ends, start, start_registers}
 use Rattle.rv_machine.specs.Effects.{step}
-use Rattle.rv_machine.specs.Trace.{Run, with_event, onward, trace, run_of, transcript_of}
+use Rattle.rv_machine.specs.Trace.{Trace, with_event, onward, trace_from, trace_of_program, transcript_of}
 use Rattle.rv_machine.specs.Class.{in_class}
 use Rattle.elf32.specs.Loads.{Program}
 use Rattle.rv_event.specs.declared.transcript.Transcript.{Transcript}
 use Rattle.rv_event.specs.Same.{same_transcript}
 use Rattle.input_laws.specs.Inputs.{IsInput}
 use Rattle.replay_law.specs.Making.{Making, IsMaker, IsCarefulMaker}
-use Rattle.replay_law.specs.Terms.{Terms, terms_after, start_terms}
-use Rattle.replay_law.specs.Follow.{conditions_of, shown_next, follow, conditions}
+use Rattle.replay_law.specs.Terms.{SymbolicState, terms_after, start_terms}
+use Rattle.replay_law.specs.Follow.{event_conditions, shown_next, follow, conditions}
 use Rattle.replay_law.proofs.Stepping.{Stands, OnGoes, step_goes}
 use Rattle.replay_law.proofs.Pinned.{Looks, shown_by, LookSame}
 use Rattle.replay_law.proofs.Steps.{AreTogether, step_looks, step_holds}
@@ -34,8 +34,8 @@ use Rattle.replay_law.proofs.Start.{zeros_below, start_below, start_aligned}
 use Rattle.replay_law.specs.Crash.{IsProgram, IsTrapped, IsCrash, AreProper}
 
 -- what a step shows stands in the rest of a run that a trap ends
-shown_rest : (k : ℕ) (x : List ℕ) (next : Next) → IsTrapped (onward (trace k x) next).end → shown_next (onward (trace k x) next).events (onward (trace k x) next).end ≡ shown_by next
-unfolding trace
+shown_rest : (k : ℕ) (x : List ℕ) (next : Next) → IsTrapped (onward (trace_from k x) next).end → shown_next (onward (trace_from k x) next).events (onward (trace_from k x) next).end ≡ shown_by next
+unfolding trace_from
 shown_rest zero x (Goes s) h = absurd h
 shown_rest (suc k) x (Goes s) h = step_pc x s
 shown_rest k x (Ends (ends.Trap t)) h = refl
@@ -43,7 +43,7 @@ shown_rest k x (Ends (ends.Exit code)) h = absurd h
 shown_rest k x (Ends ends.Limit) h = absurd h
 
 -- a run that goes on from two nexts that look the same
-record AreTogetherNext (IsMade : Tree → Type 0) (n : ℕ) (terms : Terms) (x y : List ℕ) (a b : Next) : Type 0 where
+record AreTogetherNext (IsMade : Tree → Type 0) (n : ℕ) (terms : SymbolicState) (x y : List ℕ) (a b : Next) : Type 0 where
   first : IsInput n x
   second : IsInput n y
   here : OnGoes (Stands IsMade terms x) a
@@ -52,16 +52,16 @@ record AreTogetherNext (IsMade : Tree → Type 0) (n : ℕ) (terms : Terms) (x y
   aligned : OnGoes IsAligned a
 
 -- what the law says of the runs of so many steps, in both directions
-record IsLawful (made : Making) (n : ℕ) (terms : Terms) (y : List ℕ) (run other : Run) : Type 0 where
+record IsLawful (made : Making) (n : ℕ) (terms : SymbolicState) (y : List ℕ) (run other : Trace) : Type 0 where
   gives : Hold (follow made n terms run.events run.end) y → other ≡ run
   holds : other ≡ run → Hold (follow made n terms run.events run.end) y
 
 -- the law for runs of at most k steps
 abbrev LawAt : (made : Making) (IsMade : Tree → Type 0) → ℕ → ℕ → List ℕ → List ℕ → Type 0
-LawAt made IsMade n k x y = (terms : Terms) (s r : State) → AreTogether IsMade n terms x y s r → IsTrapped (trace k x s).end → IsLawful made n terms y (trace k x s) (trace k y r)
+LawAt made IsMade n k x y = (terms : SymbolicState) (s r : State) → AreTogether IsMade n terms x y s r → IsTrapped (trace_from k x s).end → IsLawful made n terms y (trace_from k x s) (trace_from k y r)
 
 -- the law for what comes after a step
-next_lawful : {made : Making} {IsMade : Tree → Type 0} → IsMaker made IsMade → (n k : ℕ) (x y : List ℕ) → LawAt made IsMade n k x y → (terms : Terms) (a b : Next) → AreTogetherNext IsMade n terms x y a b → IsTrapped (onward (trace k x) a).end → IsLawful made n terms y (onward (trace k x) a) (onward (trace k y) b)
+next_lawful : {made : Making} {IsMade : Tree → Type 0} → IsMaker made IsMade → (n k : ℕ) (x y : List ℕ) → LawAt made IsMade n k x y → (terms : SymbolicState) (a b : Next) → AreTogetherNext IsMade n terms x y a b → IsTrapped (onward (trace_from k x) a).end → IsLawful made n terms y (onward (trace_from k x) a) (onward (trace_from k y) b)
 unfolding follow
 next_lawful m n k x y law terms (Goes s) (Goes r) h t = law terms s r (record { first = h.first; second = h.second; here = h.here; there = h.there; pc = h.looks; aligned = h.aligned }) t
 next_lawful m n k x y law terms (Goes s) (Ends e) h t = absurd h.looks
@@ -69,7 +69,7 @@ next_lawful m n k x y law terms (Ends e) (Goes r) h t = absurd h.looks
 next_lawful m n k x y law terms (Ends d) (Ends e) h t = record { gives = λ c. ap (λ f. record { events = []; end = f }) h.looks; holds = λ c. hold_none y }
 
 -- what comes after two steps that look the same
-nexts : {made : Making} {IsMade : Tree → Type 0} → IsMaker made IsMade → {n : ℕ} {terms : Terms} {x y : List ℕ} {s r : State} → AreTogether IsMade n terms x y s r → LookSame (step x s) (step y r) → AreTogetherNext IsMade n (terms_after made n terms (step x s).event) x y (step x s).next (step y r).next
+nexts : {made : Making} {IsMade : Tree → Type 0} → IsMaker made IsMade → {n : ℕ} {terms : SymbolicState} {x y : List ℕ} {s r : State} → AreTogether IsMade n terms x y s r → LookSame (step x s) (step y r) → AreTogetherNext IsMade n (terms_after made n terms (step x s).event) x y (step x s).next (step y r).next
 nexts {made} {IsMade} m {n} {terms} {x} {y} {s} {r} h look = record {
   first = h.first;
   second = h.second;
@@ -88,38 +88,38 @@ tails : (a b : Event) (es fs : List Event) → a ∷ es ≡ b ∷ fs → es ≡ 
 tails a b es fs e = cc
 
 -- runs with the same events and the same end
-same_run : (p q : Run) → p.events ≡ q.events → p.end ≡ q.end → p ≡ q
+same_run : (p q : Trace) → p.events ≡ q.events → p.end ≡ q.end → p ≡ q
 same_run p q e f = (λ i. record { events = e i; end = f i })
 
 -- a step, and the law for what comes after it
-step_lawful : {made : Making} {IsMade : Tree → Type 0} → IsMaker made IsMade → (n k : ℕ) (x y : List ℕ) → LawAt made IsMade n k x y → (terms : Terms) (s r : State) → AreTogether IsMade n terms x y s r → IsTrapped (onward (trace k x) (step x s).next).end → IsLawful made n terms y (with_event (step x s).event (onward (trace k x) (step x s).next)) (with_event (step y r).event (onward (trace k y) (step y r).next))
+step_lawful : {made : Making} {IsMade : Tree → Type 0} → IsMaker made IsMade → (n k : ℕ) (x y : List ℕ) → LawAt made IsMade n k x y → (terms : SymbolicState) (s r : State) → AreTogether IsMade n terms x y s r → IsTrapped (onward (trace_from k x) (step x s).next).end → IsLawful made n terms y (with_event (step x s).event (onward (trace_from k x) (step x s).next)) (with_event (step y r).event (onward (trace_from k y) (step y r).next))
 unfolding follow
 step_lawful {made} {IsMade} m n k x y law terms s r h t =
-    let rest = onward (trace k x) (step x s).next in
-    let other = onward (trace k y) (step y r).next in
+    let rest = onward (trace_from k x) (step x s).next in
+    let other = onward (trace_from k y) (step y r).next in
     let e = (step x s).event in
     let shown = shown_rest k x (step x s).next t in
-    let cs = conditions_of made terms e (shown_next rest.events rest.end) in
+    let cs = event_conditions made terms e (shown_next rest.events rest.end) in
     let more = follow made n (terms_after made n terms e) rest.events rest.end in
     record {
       gives = λ c.
-          let look = step_looks m h (subst (λ (v : ℕ). Hold (conditions_of made terms e v) y) shown (hold_left y cs more c)) in
+          let look = step_looks m h (subst (λ (v : ℕ). Hold (event_conditions made terms e v) y) shown (hold_left y cs more c)) in
           let later = next_lawful m n k x y law (terms_after made n terms e) (step x s).next (step y r).next (nexts m h look) t in
           (λ i. with_event (look.event i) (later.gives (hold_right y cs more c) i));
       holds = λ c.
           let event : (step y r).event ≡ e = heads (step y r).event e other.events rest.events (λ i. (c i).events) in
           let same : other ≡ rest = same_run other rest (tails (step y r).event e other.events rest.events (λ i. (c i).events)) (λ i. (c i).end) in
           let there : shown_by (step y r).next ≡ shown_by (step x s).next =
-          sym (shown_rest k y (step y r).next (subst (λ (p : Run). IsTrapped p.end) (sym same) t)) ∙ (λ i. shown_next (same i).events (same i).end) ∙ shown in
+          sym (shown_rest k y (step y r).next (subst (λ (p : Trace). IsTrapped p.end) (sym same) t)) ∙ (λ i. shown_next (same i).events (same i).end) ∙ shown in
           let holds = step_holds m h event there in
           let look = step_looks m h holds in
           let later = next_lawful m n k x y law (terms_after made n terms e) (step x s).next (step y r).next (nexts m h look) t in
-          hold_both y cs more (subst (λ (v : ℕ). Hold (conditions_of made terms e v) y) (sym shown) holds) (later.holds same);
+          hold_both y cs more (subst (λ (v : ℕ). Hold (event_conditions made terms e v) y) (sym shown) holds) (later.holds same);
     }
 
 -- the law for runs of every length
 run_lawful : {made : Making} {IsMade : Tree → Type 0} → IsMaker made IsMade → (n : ℕ) (x y : List ℕ) (k : ℕ) → LawAt made IsMade n k x y
-unfolding trace
+unfolding trace_from
 run_lawful m n x y zero terms s r h t = absurd t
 run_lawful m n x y (suc k) terms s r h t = step_lawful m n k x y (run_lawful m n x y k) terms s r h t
 
@@ -166,8 +166,8 @@ start_together m program h n x y ix iy = record { first = ix; second = iy; here 
 same_lawful : {made : Making} {IsMade : Tree → Type 0} → IsMaker made IsMade → FindsEqual → (program : Program) (limit : ℕ) (x y : List ℕ) → IsProgram program → IsInput (length x) x → IsInput (length x) y → IsTrapped (transcript_of program x limit).end → Hold (conditions made program (transcript_of program x limit)) y ↔ (transcript_of program y limit ≡ transcript_of program x limit)
 unfolding conditions transcript_of
 same_lawful {made} m equal program limit x y h ix iy t =
-    let run = run_of program x limit in
-    let other = run_of program y limit in
+    let run = trace_of_program program x limit in
+    let other = trace_of_program program y limit in
     let law = run_lawful m (length x) x y limit (start_terms program.segments) (start program.entry program.segments) (start program.entry program.segments) (start_together m program h (length x) x y ix iy) t in
     let ts = follow made (length x) (start_terms program.segments) run.events run.end in (
       λ c. let e = law.gives (kept_give equal y [] ts c) in (λ i. record { n = iy.long i; events = (e i).events; end = (e i).end }),
@@ -188,7 +188,7 @@ pub conditions_lawful : {made : Making} {IsMade : Tree → Type 0} → IsMaker m
 unfolding in_class
 conditions_lawful {made} m equal same program limit x y run h c iy =
     let Law : Transcript → Type 0 = λ t. IsInput t.n x → IsInput t.n y → IsTrapped t.end → Hold (conditions made program t) y ↔ (transcript_of program y limit ≡ t) in
-    let law = subst Law (sym c.trace) (traced_lawful m equal program limit x y h) c.input iy c.trapped in
+    let law = subst Law (sym c.trace_from) (traced_lawful m equal program limit x y h) c.input iy c.trapped in
     let test = same (transcript_of program y limit) run in
     (λ k. test.1 (law.0 k), λ k. law.1 (test.0 k))
 
@@ -196,18 +196,18 @@ conditions_lawful {made} m equal same program limit x y run h c iy =
 
 -- the conditions of what comes after a step are new ones
 next_new : (made : Making) (IsMade : Tree → Type 0) (n k : ℕ) (x : List ℕ)
-    → ((terms : Terms) (s : State) → Stands IsMade terms x s → ReadWithin n terms → Each (IsNew IsMade n) (follow made n terms (trace k x s).events (trace k x s).end))
-    → (terms : Terms) (a : Next) → OnGoes (Stands IsMade terms x) a → ReadWithin n terms → Each (IsNew IsMade n) (follow made n terms (onward (trace k x) a).events (onward (trace k x) a).end)
+    → ((terms : SymbolicState) (s : State) → Stands IsMade terms x s → ReadWithin n terms → Each (IsNew IsMade n) (follow made n terms (trace_from k x s).events (trace_from k x s).end))
+    → (terms : SymbolicState) (a : Next) → OnGoes (Stands IsMade terms x) a → ReadWithin n terms → Each (IsNew IsMade n) (follow made n terms (onward (trace_from k x) a).events (onward (trace_from k x) a).end)
 unfolding follow
 next_new made IsMade n k x law terms (Goes s) h w = law terms s h w
 next_new made IsMade n k x law terms (Ends e) h w = tt
 
 -- the conditions along a run are new ones
-run_new : {made : Making} {IsMade : Tree → Type 0} → IsMaker made IsMade → IsCarefulMaker made IsMade → (n : ℕ) (x : List ℕ) → IsInput n x → (k : ℕ) (terms : Terms) (s : State) → Stands IsMade terms x s → ReadWithin n terms → Each (IsNew IsMade n) (follow made n terms (trace k x s).events (trace k x s).end)
-unfolding trace follow
+run_new : {made : Making} {IsMade : Tree → Type 0} → IsMaker made IsMade → IsCarefulMaker made IsMade → (n : ℕ) (x : List ℕ) → IsInput n x → (k : ℕ) (terms : SymbolicState) (s : State) → Stands IsMade terms x s → ReadWithin n terms → Each (IsNew IsMade n) (follow made n terms (trace_from k x s).events (trace_from k x s).end)
+unfolding trace_from follow
 run_new m c n x ix zero terms s h w = tt
 run_new {made} {IsMade} m c n x ix (suc k) terms s h w =
-    both_each (IsNew IsMade n) (conditions_of made terms (step x s).event (shown_next (onward (trace k x) (step x s).next).events (onward (trace k x) (step x s).next).end)) _
+    both_each (IsNew IsMade n) (event_conditions made terms (step x s).event (shown_next (onward (trace_from k x) (step x s).next).events (onward (trace_from k x) (step x s).next).end)) _
     (new_conditions m c n terms h.made w (step x s).event _)
     (next_new made IsMade n k x (λ t r. run_new m c n x ix k t r) (terms_after made n terms (step x s).event) (step x s).next (step_goes m n ix h) (after_within c n terms w (step x s).event))
 
@@ -215,7 +215,7 @@ run_new {made} {IsMade} m c n x ix (suc k) terms s h w =
 traced_proper : {made : Making} {IsMade : Tree → Type 0} → IsMaker made IsMade → IsCarefulMaker made IsMade → FindsEqual → ((t : Tree) → same_tree t t ≡ true) → (program : Program) (limit : ℕ) (x : List ℕ) → IsProgram program → IsInput (transcript_of program x limit).n x → IsTrapped (transcript_of program x limit).end → AreProper (transcript_of program x limit).n (conditions made program (transcript_of program x limit))
 unfolding conditions transcript_of
 traced_proper {made} {IsMade} m c equal itself program limit x h ix t =
-    let run = run_of program x limit in
+    let run = trace_of_program program x limit in
     let ts = follow made (length x) (start_terms program.segments) run.events run.end in
     kept_proper c (λ d. itself (Const d)) (length x) x [] ts tt
     (run_new m c (length x) x ix limit (start_terms program.segments) (start program.entry program.segments) (start_stands m program h x) (start_within (length x) program.segments))
@@ -225,4 +225,4 @@ traced_proper {made} {IsMade} m c equal itself program limit x h ix t =
 pub conditions_proper : {made : Making} {IsMade : Tree → Type 0} → IsMaker made IsMade → IsCarefulMaker made IsMade → FindsEqual → ((t : Tree) → same_tree t t ≡ true) → (program : Program) (limit : ℕ) (x : List ℕ) (run : Transcript) → IsProgram program → IsCrash program limit x run → AreProper run.n (conditions made program run)
 conditions_proper {made} m c equal itself program limit x run h k =
     let Law : Transcript → Type 0 = λ t. IsInput t.n x → IsTrapped t.end → AreProper t.n (conditions made program t) in
-    subst Law (sym k.trace) (traced_proper m c equal itself program limit x h) k.input k.trapped
+    subst Law (sym k.trace_from) (traced_proper m c equal itself program limit x h) k.input k.trapped

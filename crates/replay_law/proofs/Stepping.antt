@@ -22,13 +22,13 @@ use Rattle.rv_machine.specs.Calls.{Reply, Answers, Moves, Breaks, Exits, if_none
 use Rattle.rv_machine.specs.Effects.{even, jump, exit, taken, size_of, stored, input_bytes, after_load, after_store, after_call, address_of, effect, executed, after_fetch, step}
 use Rattle.input_laws.specs.Inputs.{IsInput}
 use Rattle.replay_law.specs.Making.{Making, IsMaker}
-use Rattle.replay_law.specs.Terms.{Terms, reg_term, put_reg, put_trees, zero_between, input_terms, loaded_term, stored_terms, call_value, after_reply, after_row, after_instr, terms_after}
+use Rattle.replay_law.specs.Terms.{SymbolicState, reg_term, put_reg, put_trees, zero_between, input_terms, loaded_term, stored_terms, call_value, after_reply, after_row, after_instr, terms_after}
 use Rattle.replay_law.proofs.Agreeing.{reg_value, written_value, written_keeps, placed_valued, break_valued, put_keeps, zero_keeps, Each, same_rights, reply_same}
 use Rattle.replay_law.proofs.Moved.{IsByte, loaded_made, loaded_value, stored_value, stored_bytes, input_values, input_are_bytes}
 use Rattle.replay_law.proofs.Agreement.{Agrees, AreMade}
 
 -- a plain state agrees with terms that are made
-pub record Stands (IsMade : Tree → Type 0) (terms : Terms) (y : List ℕ) (s : State) : Type 0 where
+pub record Stands (IsMade : Tree → Type 0) (terms : SymbolicState) (y : List ℕ) (s : State) : Type 0 where
   pub agrees : Agrees terms y s
   pub made : AreMade IsMade terms
 
@@ -56,22 +56,22 @@ bits_below (pos n) = omega arith
 bits_below (negsuc n) = omega arith
 
 -- the terms of memory are made bytes
-pub bytes_of : {IsMade : Tree → Type 0} {terms : Terms} → AreMade IsMade terms → (a : ℕ) → IsByte IsMade (terms.bytes a)
+pub bytes_of : {IsMade : Tree → Type 0} {terms : SymbolicState} → AreMade IsMade terms → (a : ℕ) → IsByte IsMade (terms.bytes a)
 bytes_of h a = (h.bytes a, h.small a)
 
 -- another program counter
-stay : {IsMade : Tree → Type 0} {terms : Terms} {y : List ℕ} {s : State} → Stands IsMade terms y s → (pc : ℕ) → Stands IsMade terms y (at pc s)
+stay : {IsMade : Tree → Type 0} {terms : SymbolicState} {y : List ℕ} {s : State} → Stands IsMade terms y s → (pc : ℕ) → Stands IsMade terms y (at pc s)
 stay h pc = record { agrees = record { registers = h.agrees.registers; memory = h.agrees.memory; heap = h.agrees.heap; place = h.agrees.place }; made = h.made }
 
 -- another value in a register, and its term
-put : {IsMade : Tree → Type 0} {terms : Terms} {y : List ℕ} {s : State} → Stands IsMade terms y s → (pc rd v : ℕ) (t : Tree) → v ≡ val t y → IsMade t → Stands IsMade (put_reg rd t terms) y (at pc (write_reg rd v s))
+put : {IsMade : Tree → Type 0} {terms : SymbolicState} {y : List ℕ} {s : State} → Stands IsMade terms y s → (pc rd v : ℕ) (t : Tree) → v ≡ val t y → IsMade t → Stands IsMade (put_reg rd t terms) y (at pc (write_reg rd v s))
 put {IsMade} {terms} {y} {s} h pc rd v t e it = record {
   agrees = record { registers = written_value h.agrees rd v t e; memory = h.agrees.memory; heap = h.agrees.heap; place = h.agrees.place };
   made = record { registers = λ r. written_keeps IsMade terms.registers rd r t it (h.made.registers r); bytes = h.made.bytes; small = h.made.small; break = h.made.break };
 }
 
 -- terms put into memory
-moved : {IsMade : Tree → Type 0} {terms : Terms} {y : List ℕ} {s : State} → Stands IsMade terms y s → (a place p : ℕ) (bs : List ℕ) (ts : List Tree) → p ≡ place → bs ≡ map (λ u. val u y) ts → Each (IsByte IsMade) ts → Stands IsMade (record { registers = terms.registers; bytes = put_trees terms.bytes a ts; place = place; cells = terms.cells; heap = terms.heap }) y (record { registers = s.registers; pc = s.pc; memory = placed s.memory a bs; heap = s.heap; place = p })
+moved : {IsMade : Tree → Type 0} {terms : SymbolicState} {y : List ℕ} {s : State} → Stands IsMade terms y s → (a place p : ℕ) (bs : List ℕ) (ts : List Tree) → p ≡ place → bs ≡ map (λ u. val u y) ts → Each (IsByte IsMade) ts → Stands IsMade (record { registers = terms.registers; bytes = put_trees terms.bytes a ts; place = place; cells = terms.cells; heap = terms.heap }) y (record { registers = s.registers; pc = s.pc; memory = placed s.memory a bs; heap = s.heap; place = p })
 moved {IsMade} {terms} {y} {s} h a place p bs ts f e each = record {
   agrees = record {
     registers = h.agrees.registers;
@@ -88,7 +88,7 @@ moved {IsMade} {terms} {y} {s} h a place p bs ts f e each = record {
 }
 
 -- the break moved
-broken : {made : Making} {IsMade : Tree → Type 0} → IsMaker made IsMade → {terms : Terms} {y : List ℕ} {s : State} → Stands IsMade terms y s → (b : Heap) (a : ℕ) → a < 2 ^ 32 → Stands IsMade (record terms { bytes = zero_between terms.bytes b.brk a; cells = with_break terms.cells b.brk a; heap = Some (record { start = b.start; brk = a }) }) y (record s { memory = with_break s.memory b.brk a; heap = Some (record { start = b.start; brk = a }) })
+broken : {made : Making} {IsMade : Tree → Type 0} → IsMaker made IsMade → {terms : SymbolicState} {y : List ℕ} {s : State} → Stands IsMade terms y s → (b : Heap) (a : ℕ) → a < 2 ^ 32 → Stands IsMade (record terms { bytes = zero_between terms.bytes b.brk a; cells = with_break terms.cells b.brk a; heap = Some (record { start = b.start; brk = a }) }) y (record s { memory = with_break s.memory b.brk a; heap = Some (record { start = b.start; brk = a }) })
 broken {made} {IsMade} m {terms} {y} {s} h b a lt =
     let zero : IsByte IsMade (Const 0) = (m.constant 0 (omega arith), λ z bs. omega arith) in
     let each = zero_keeps (IsByte IsMade) terms.bytes b.brk a zero (bytes_of h.made) in
@@ -103,12 +103,12 @@ broken {made} {IsMade} m {terms} {y} {s} h b a lt =
     }
 
 -- a load
-load_goes : {made : Making} {IsMade : Tree → Type 0} → IsMaker made IsMade → {terms : Terms} {y : List ℕ} {s : State} → AreBytes y → Stands IsMade terms y s → (width : Width) (rd a : ℕ) (o : Option ℕ) → first_without read s.memory a (size_of width) ≡ o → OnGoes (Stands IsMade (put_reg rd (loaded_term made terms.bytes width a) terms) y) (after_load s width rd a o)
+load_goes : {made : Making} {IsMade : Tree → Type 0} → IsMaker made IsMade → {terms : SymbolicState} {y : List ℕ} {s : State} → AreBytes y → Stands IsMade terms y s → (width : Width) (rd a : ℕ) (o : Option ℕ) → first_without read s.memory a (size_of width) ≡ o → OnGoes (Stands IsMade (put_reg rd (loaded_term made terms.bytes width a) terms) y) (after_load s width rd a o)
 load_goes m {terms} {y} {s} bs h width rd a None ok = put h _ rd _ _ (loaded_value m bs h.agrees (bytes_of h.made) width a ok) (loaded_made m terms.bytes (bytes_of h.made) width a)
 load_goes m bs h width rd a (Some fault) ok = tt
 
 -- a store
-store_goes : {made : Making} {IsMade : Tree → Type 0} → IsMaker made IsMade → {terms : Terms} {y : List ℕ} {s : State} → AreBytes y → Stands IsMade terms y s → (width : Width) (rs2 a : ℕ) (o : Option ℕ) → OnGoes (Stands IsMade (record terms { bytes = put_trees terms.bytes a (stored_terms made width (reg_term terms rs2)) }) y) (after_store s width (reg s rs2) a o)
+store_goes : {made : Making} {IsMade : Tree → Type 0} → IsMaker made IsMade → {terms : SymbolicState} {y : List ℕ} {s : State} → AreBytes y → Stands IsMade terms y s → (width : Width) (rs2 a : ℕ) (o : Option ℕ) → OnGoes (Stands IsMade (record terms { bytes = put_trees terms.bytes a (stored_terms made width (reg_term terms rs2)) }) y) (after_store s width (reg s rs2) a o)
 store_goes m {terms} {y} {s} bs h width rs2 a None =
     stay (moved h a terms.place s.place _ _ h.agrees.place (ap (stored width) (reg_value h.agrees rs2) ∙ stored_value m y bs width (reg_term terms rs2) (h.made.registers rs2)) (stored_bytes m width (reg_term terms rs2) (h.made.registers rs2))) _
 store_goes m bs h width rs2 a (Some fault) = tt
@@ -153,7 +153,7 @@ exit_goes P pc code = either (nat_lt code 128)
     either false = tt
 
 -- a call, by its reply
-reply_goes : {made : Making} {IsMade : Tree → Type 0} → IsMaker made IsMade → {terms : Terms} {y : List ℕ} {s : State} → Stands IsMade terms y s → (e : Event) → call_value e 2 ≡ reg s 11 → (r : Reply) → IsWordReply r → OnGoes (Stands IsMade (after_reply terms e r) y) (after_call y s r)
+reply_goes : {made : Making} {IsMade : Tree → Type 0} → IsMaker made IsMade → {terms : SymbolicState} {y : List ℕ} {s : State} → Stands IsMade terms y s → (e : Event) → call_value e 2 ≡ reg s 11 → (r : Reply) → IsWordReply r → OnGoes (Stands IsMade (after_reply terms e r) y) (after_call y s r)
 reply_goes m h e a1 (Answers v) w = put h _ 10 v (Const v) refl (m.constant v w)
 reply_goes {IsMade = IsMade} m {terms} {y} {s} h e a1 (Moves k) w =
     put (subst (λ (a : ℕ). Stands IsMade (record { registers = terms.registers; bytes = put_trees terms.bytes (call_value e 2) (input_terms terms.place k); place = terms.place + k; cells = terms.cells; heap = terms.heap }) y (record { registers = s.registers; pc = s.pc; memory = placed s.memory a (input_bytes y s.place k); heap = s.heap; place = s.place + k })) a1
@@ -163,21 +163,21 @@ reply_goes m h e a1 (Breaks b a) w = put (broken m h b a w) _ 10 a (Const a) ref
 reply_goes {IsMade = IsMade} m {terms} {y} {s} h e a1 (Exits code) w = exit_goes (Stands IsMade terms y) s.pc code
 
 -- a jump that writes a register
-jump_put : {IsMade : Tree → Type 0} {terms : Terms} {y : List ℕ} {s : State} → Stands IsMade terms y s → (pc target rd v : ℕ) (t : Tree) → v ≡ val t y → IsMade t → OnGoes (Stands IsMade (put_reg rd t terms) y) (jump pc target (write_reg rd v s))
+jump_put : {IsMade : Tree → Type 0} {terms : SymbolicState} {y : List ℕ} {s : State} → Stands IsMade terms y s → (pc target rd v : ℕ) (t : Tree) → v ≡ val t y → IsMade t → OnGoes (Stands IsMade (put_reg rd t terms) y) (jump pc target (write_reg rd v s))
 jump_put {IsMade} {terms} {y} {s} h pc target rd v t e it =
     jump_goes (Stands IsMade (put_reg rd t terms) y) pc target (write_reg rd v s) (put h target rd v t e it)
 
 -- a branch
-branch_stay : {IsMade : Tree → Type 0} {terms : Terms} {y : List ℕ} {s : State} → Stands IsMade terms y s → (b : Bool) (pc target : ℕ) → OnGoes (Stands IsMade terms y) (if b then jump pc target s else Goes (at (following pc) s))
+branch_stay : {IsMade : Tree → Type 0} {terms : SymbolicState} {y : List ℕ} {s : State} → Stands IsMade terms y s → (b : Bool) (pc target : ℕ) → OnGoes (Stands IsMade terms y) (if b then jump pc target s else Goes (at (following pc) s))
 branch_stay {IsMade} {terms} {y} {s} h true pc target = jump_goes (Stands IsMade terms y) pc target s (stay h target)
 branch_stay h false pc target = stay h _
 
 -- a call, by a reply that is that of the terms
-call_goes : {made : Making} {IsMade : Tree → Type 0} → IsMaker made IsMade → {terms : Terms} {y : List ℕ} {s : State} → Stands IsMade terms y s → (e : Event) → call_value e 2 ≡ reg s 11 → (r q : Reply) → r ≡ q → IsWordReply r → OnGoes (Stands IsMade (after_reply terms e q) y) (after_call y s r)
+call_goes : {made : Making} {IsMade : Tree → Type 0} → IsMaker made IsMade → {terms : SymbolicState} {y : List ℕ} {s : State} → Stands IsMade terms y s → (e : Event) → call_value e 2 ≡ reg s 11 → (r q : Reply) → r ≡ q → IsWordReply r → OnGoes (Stands IsMade (after_reply terms e q) y) (after_call y s r)
 call_goes {IsMade = IsMade} m {terms} {y} {s} h e a1 r q same w = subst (λ (p : Reply). OnGoes (Stands IsMade (after_reply terms e p) y) (after_call y s r)) same (reply_goes m h e a1 r w)
 
 -- the row of each instruction
-row_goes : {made : Making} {IsMade : Tree → Type 0} → IsMaker made IsMade → {terms : Terms} {y : List ℕ} {s : State} → (n : ℕ) → IsInput n y → Stands IsMade terms y s → (word : ℕ) (i : Instr) → OnGoes (Stands IsMade (after_row made n terms (effect y s word i).event i) y) (effect y s word i).next
+row_goes : {made : Making} {IsMade : Tree → Type 0} → IsMaker made IsMade → {terms : SymbolicState} {y : List ℕ} {s : State} → (n : ℕ) → IsInput n y → Stands IsMade terms y s → (word : ℕ) (i : Instr) → OnGoes (Stands IsMade (after_row made n terms (effect y s word i).event i) y) (effect y s word i).next
 unfolding effect
 row_goes m n inp h word (Lui rd imm) = put h _ rd _ (Const (bits imm)) refl (m.constant (bits imm) (bits_below imm))
 row_goes m {s = s} n inp h word (Auipc rd imm) = put h _ rd _ (Const ((s.pc + bits imm) % 2 ^ 32)) refl (m.constant _ (omega arith))
@@ -206,7 +206,7 @@ row_goes m {terms} {y} {s} n inp h word Ecall =
 row_goes m n inp h word Ebreak = tt
 
 -- a word that may be illegal
-executed_goes : {made : Making} {IsMade : Tree → Type 0} → IsMaker made IsMade → {terms : Terms} {y : List ℕ} {s : State} → (n : ℕ) → IsInput n y → Stands IsMade terms y s → (word : ℕ) (o : Option Instr) → OnGoes (Stands IsMade (after_instr made n terms (executed y s word o).event o) y) (executed y s word o).next
+executed_goes : {made : Making} {IsMade : Tree → Type 0} → IsMaker made IsMade → {terms : SymbolicState} {y : List ℕ} {s : State} → (n : ℕ) → IsInput n y → Stands IsMade terms y s → (word : ℕ) (o : Option Instr) → OnGoes (Stands IsMade (after_instr made n terms (executed y s word o).event o) y) (executed y s word o).next
 executed_goes m n inp h word None = tt
 executed_goes m n inp h word (Some i) = row_goes m n inp h word i
 
@@ -228,7 +228,7 @@ word_kept y s word (Some Ecall) = refl
 word_kept y s word (Some Ebreak) = refl
 
 -- a step, by its fetch
-fetch_goes : {made : Making} {IsMade : Tree → Type 0} → IsMaker made IsMade → {terms : Terms} {y : List ℕ} {s : State} → (n : ℕ) → IsInput n y → Stands IsMade terms y s → (o : Option ℕ) → OnGoes (Stands IsMade (terms_after made n terms (after_fetch y s o).event) y) (after_fetch y s o).next
+fetch_goes : {made : Making} {IsMade : Tree → Type 0} → IsMaker made IsMade → {terms : SymbolicState} {y : List ℕ} {s : State} → (n : ℕ) → IsInput n y → Stands IsMade terms y s → (o : Option ℕ) → OnGoes (Stands IsMade (terms_after made n terms (after_fetch y s o).event) y) (after_fetch y s o).next
 unfolding terms_after
 fetch_goes {made} {IsMade} m {terms} {y} {s} n inp h None =
     let word = word_at s.memory s.pc in
@@ -238,6 +238,6 @@ fetch_goes {made} {IsMade} m {terms} {y} {s} n inp h None =
 fetch_goes m n inp h (Some fault) = tt
 
 -- one step
-pub step_goes : {made : Making} {IsMade : Tree → Type 0} → IsMaker made IsMade → {terms : Terms} {y : List ℕ} {s : State} → (n : ℕ) → IsInput n y → Stands IsMade terms y s → OnGoes (Stands IsMade (terms_after made n terms (step y s).event) y) (step y s).next
+pub step_goes : {made : Making} {IsMade : Tree → Type 0} → IsMaker made IsMade → {terms : SymbolicState} {y : List ℕ} {s : State} → (n : ℕ) → IsInput n y → Stands IsMade terms y s → OnGoes (Stands IsMade (terms_after made n terms (step y s).event) y) (step y s).next
 unfolding step
 step_goes m {terms} {y} {s} n inp h = fetch_goes m n inp h (first_without execute s.memory s.pc 4)

@@ -13,8 +13,8 @@ use Rattle.term_model.proofs.HoldLemmas.{hold_none, hold_both, hold_left, hold_r
 use Rattle.rv_machine.specs.State.{State, Goes, reg, write_reg, at, following, bits}
 use Rattle.rv_machine.specs.Effects.{even, jump, taken, address_of, effect}
 use Rattle.replay_law.specs.Making.{Making, IsMaker}
-use Rattle.replay_law.specs.Forms.{pin, target, outcome}
-use Rattle.replay_law.specs.Terms.{Terms, reg_term, sum_term}
+use Rattle.replay_law.specs.Forms.{pin, target, branch_conditions}
+use Rattle.replay_law.specs.Terms.{SymbolicState, reg_term, sum_term}
 use Rattle.replay_law.specs.Follow.{row_conditions}
 use Rattle.replay_law.proofs.Held.{pin_holds, pin_gives, target_holds, target_gives, hold_if, if_held, outcome_holds, outcome_gives}
 use Rattle.replay_law.proofs.Agreeing.{reg_value}
@@ -23,16 +23,16 @@ use Rattle.replay_law.proofs.Pinned.{shown_by, target_of, IsPinned, jump_shows}
 use Rattle.replay_law.proofs.Agreement.{AreMade}
 
 -- the value of a data address
-sum_value : {made : Making} {IsMade : Tree → Type 0} → IsMaker made IsMade → {terms : Terms} {y : List ℕ} {r : State} → AreBytes y → Stands IsMade terms y r → (rs1 imm : ℕ) → imm < 2 ^ 32 → val (sum_term made terms rs1 imm) y ≡ address_of r rs1 imm
+sum_value : {made : Making} {IsMade : Tree → Type 0} → IsMaker made IsMade → {terms : SymbolicState} {y : List ℕ} {r : State} → AreBytes y → Stands IsMade terms y r → (rs1 imm : ℕ) → imm < 2 ^ 32 → val (sum_term made terms rs1 imm) y ≡ address_of r rs1 imm
 sum_value m {terms} {y} {r} bs h rs1 imm lt =
     m.keeps (Alu Add) (reg_term terms rs1) (Const imm) y (h.made.registers rs1) (m.constant imm lt) tt bs ∙ ap (λ v. (v + imm) % 2 ^ 32) (sym (reg_value h.agrees rs1))
 
 -- a data address is made
-sum_made : {made : Making} {IsMade : Tree → Type 0} → IsMaker made IsMade → {terms : Terms} → AreMade IsMade terms → (rs1 imm : ℕ) → imm < 2 ^ 32 → IsMade (sum_term made terms rs1 imm)
+sum_made : {made : Making} {IsMade : Tree → Type 0} → IsMaker made IsMade → {terms : SymbolicState} → AreMade IsMade terms → (rs1 imm : ℕ) → imm < 2 ^ 32 → IsMade (sum_term made terms rs1 imm)
 sum_made m {terms} h rs1 imm lt = m.gives (Alu Add) (reg_term terms rs1) (Const imm) (h.registers rs1) (m.constant imm lt) tt
 
 -- the value of a register is a word
-reg_below : {made : Making} {IsMade : Tree → Type 0} → IsMaker made IsMade → {terms : Terms} {y : List ℕ} {r : State} → AreBytes y → Stands IsMade terms y r → (k : ℕ) → reg r k < 2 ^ 32
+reg_below : {made : Making} {IsMade : Tree → Type 0} → IsMaker made IsMade → {terms : SymbolicState} {y : List ℕ} {r : State} → AreBytes y → Stands IsMade terms y r → (k : ℕ) → reg r k < 2 ^ 32
 reg_below m {terms} {y} {r} bs h k = subst (λ (v : ℕ). v < 2 ^ 32) (sym (reg_value h.agrees k)) (m.words (reg_term terms k) y (h.made.registers k) bs)
 
 -- a number with bit 0 cleared is even
@@ -49,7 +49,7 @@ shown_target true pc t s far = eq-eqb _ _ (jump_shows pc t s)
 shown_target false pc t s far = ne_eqb _ _ (λ e. far (sym e))
 
 -- the state r on y and the state s on x agree with the same terms, and have the same program counter
-pub row_gives : {made : Making} {IsMade : Tree → Type 0} → IsMaker made IsMade → {terms : Terms} {x y : List ℕ} {s r : State} → AreBytes x → AreBytes y → Stands IsMade terms x s → Stands IsMade terms y r → (word : ℕ) (i : Instr) → Hold (row_conditions made terms (effect x s word i).event (shown_by (effect x s word i).next) i) y → IsPinned s r i
+pub row_gives : {made : Making} {IsMade : Tree → Type 0} → IsMaker made IsMade → {terms : SymbolicState} {x y : List ℕ} {s r : State} → AreBytes x → AreBytes y → Stands IsMade terms x s → Stands IsMade terms y r → (word : ℕ) (i : Instr) → Hold (row_conditions made terms (effect x s word i).event (shown_by (effect x s word i).next) i) y → IsPinned s r i
 unfolding effect
 row_gives m bx bs hx h word (Lui rd imm) c = tt
 row_gives m bx bs hx h word (Auipc rd imm) c = tt
@@ -61,7 +61,7 @@ row_gives {made} m {terms} {x} {y} {s} {r} bx bs hx h word (Jalr rd rs1 imm) c =
     ∙ target_gives m y bs t (even (address_of s rs1 (bits imm))) (sum_made m h.made rs1 (bits imm) (bits_below imm)) (even_below (reg s rs1 + bits imm)) (even_even (address_of s rs1 (bits imm)))
     (subst (λ (v : ℕ). Hold (target made t v) y) e c)
 row_gives {made} m {terms} {x} {y} {s} {r} bx bs hx h word (Branch cond rs1 rs2 offset) c =
-    if_held y (target_of s (bits offset) == following s.pc) [] (outcome made cond (reg_term terms rs1) (reg_term terms rs2) (shown_by (effect x s word (Branch cond rs1 rs2 offset)).next == target_of s (bits offset)))
+    if_held y (target_of s (bits offset) == following s.pc) [] (branch_conditions made cond (reg_term terms rs1) (reg_term terms rs2) (shown_by (effect x s word (Branch cond rs1 rs2 offset)).next == target_of s (bits offset)))
     (IsPinned s r (Branch cond rs1 rs2 offset))
     (λ near k. inl (eqb-true _ _ near))
     (λ far k. inr (
@@ -95,7 +95,7 @@ far_or_same (inl a) f = absurd (f a)
 far_or_same (inr b) f = b
 
 -- the conditions of an instruction hold where the values that it pins are the same
-pub row_holds : {made : Making} {IsMade : Tree → Type 0} → IsMaker made IsMade → {terms : Terms} {x y : List ℕ} {s r : State} → AreBytes x → AreBytes y → Stands IsMade terms x s → Stands IsMade terms y r → (word : ℕ) (i : Instr) → IsPinned s r i → Hold (row_conditions made terms (effect x s word i).event (shown_by (effect x s word i).next) i) y
+pub row_holds : {made : Making} {IsMade : Tree → Type 0} → IsMaker made IsMade → {terms : SymbolicState} {x y : List ℕ} {s r : State} → AreBytes x → AreBytes y → Stands IsMade terms x s → Stands IsMade terms y r → (word : ℕ) (i : Instr) → IsPinned s r i → Hold (row_conditions made terms (effect x s word i).event (shown_by (effect x s word i).next) i) y
 unfolding effect
 row_holds m {y = y} bx bs hx h word (Lui rd imm) p = hold_none y
 row_holds m {y = y} bx bs hx h word (Auipc rd imm) p = hold_none y
@@ -104,7 +104,7 @@ row_holds {made} m {terms} {x} {y} {s} {r} bx bs hx h word (Jalr rd rs1 imm) p =
     target_holds m y bs (sum_term made terms rs1 (bits imm)) _ (sum_made m h.made rs1 (bits imm) (bits_below imm))
     (ap even (sum_value m bs h rs1 (bits imm) (bits_below imm)) ∙ p ∙ sym (jump_shows s.pc (even (address_of s rs1 (bits imm))) (write_reg rd (following s.pc) s)))
 row_holds {made} m {terms} {x} {y} {s} {r} bx bs hx h word (Branch cond rs1 rs2 offset) p =
-    hold_if y (target_of s (bits offset) == following s.pc) [] (outcome made cond (reg_term terms rs1) (reg_term terms rs2) (shown_by (effect x s word (Branch cond rs1 rs2 offset)).next == target_of s (bits offset)))
+    hold_if y (target_of s (bits offset) == following s.pc) [] (branch_conditions made cond (reg_term terms rs1) (reg_term terms rs2) (shown_by (effect x s word (Branch cond rs1 rs2 offset)).next == target_of s (bits offset)))
     (λ near. hold_none y)
     (λ far. outcome_holds m y bs cond (reg_term terms rs1) (reg_term terms rs2) (shown_by (effect x s word (Branch cond rs1 rs2 offset)).next == target_of s (bits offset)) (h.made.registers rs1) (h.made.registers rs2)
     (sym (λ i. taken cond (reg_value h.agrees rs1 i) (reg_value h.agrees rs2 i))

@@ -77,16 +77,16 @@ abbrev pub succeeds : Tree → List Tree
 succeeds t = t ∷ []
 
 -- a branch on two terms was taken, or was not
-abbrev pub outcome : Making → Cond → Tree → Tree → Bool → List Tree
-outcome made conds.Eq a b true = equal made a b
-outcome made conds.Eq a b false = fails made (made Eq a b)
-outcome made conds.Ne a b true = fails made (made Eq a b)
-outcome made conds.Ne a b false = equal made a b
-outcome made conds.Lt a b true = succeeds (made (Alu Slt) a b)
-outcome made conds.Lt a b false = fails made (made (Alu Slt) a b)
-outcome made conds.Ge a b true = fails made (made (Alu Slt) a b)
-outcome made conds.Ge a b false = succeeds (made (Alu Slt) a b)
-outcome made conds.Ltu a b true = succeeds (made (Alu Sltu) a b)
-outcome made conds.Ltu a b false = fails made (made (Alu Sltu) a b)
-outcome made conds.Geu a b true = fails made (made (Alu Sltu) a b)
-outcome made conds.Geu a b false = succeeds (made (Alu Sltu) a b)
+abbrev pub branch_conditions : Making → Cond → Tree → Tree → Bool → List Tree
+branch_conditions made conds.Eq a b true = equal made a b
+branch_conditions made conds.Eq a b false = fails made (made Eq a b)
+branch_conditions made conds.Ne a b true = fails made (made Eq a b)
+branch_conditions made conds.Ne a b false = equal made a b
+branch_conditions made conds.Lt a b true = succeeds (made (Alu Slt) a b)
+branch_conditions made conds.Lt a b false = fails made (made (Alu Slt) a b)
+branch_conditions made conds.Ge a b true = fails made (made (Alu Slt) a b)
+branch_conditions made conds.Ge a b false = succeeds (made (Alu Slt) a b)
+branch_conditions made conds.Ltu a b true = succeeds (made (Alu Sltu) a b)
+branch_conditions made conds.Ltu a b false = fails made (made (Alu Sltu) a b)
+branch_conditions made conds.Geu a b true = fails made (made (Alu Sltu) a b)
+branch_conditions made conds.Geu a b false = succeeds (made (Alu Sltu) a b)

@@ -22,7 +22,7 @@ use Rattle.replay_law.specs.Forms.{byte_term}
 
 -- the terms of the registers x0 to x31 and of the byte at each address, how many bytes of the input have been read, which addresses
 -- memory has with which rights (the bytes of these cells are not read), and the heap
-pub record Terms : Type 0 where
+pub record SymbolicState : Type 0 where
   pub registers : List Tree
   pub bytes : ℕ → Tree
   pub place : ℕ
@@ -32,7 +32,7 @@ pub record Terms : Type 0 where
 -- ---- registers
 
 -- the term of a register
-abbrev pub reg_term : Terms → ℕ → Tree
+abbrev pub reg_term : SymbolicState → ℕ → Tree
 reg_term s r = slice_index_or s.registers r (Const 0)
 
 -- registers with another term in one of them: a write to x0 has no effect
@@ -40,11 +40,11 @@ abbrev pub written_term : ℕ → Tree → List Tree → List Tree
 written_term rd t registers = if rd == 0 then registers else slice_set registers rd t
 
 -- the terms with another one in a register
-abbrev pub put_reg : ℕ → Tree → Terms → Terms
+abbrev pub put_reg : ℕ → Tree → SymbolicState → SymbolicState
 put_reg rd t s = record s { registers = written_term rd t s.registers }
 
 -- a register and an immediate: a data address, or the target of JALR
-abbrev pub sum_term : Making → Terms → ℕ → ℕ → Tree
+abbrev pub sum_term : Making → SymbolicState → ℕ → ℕ → Tree
 sum_term made s rs1 imm = made (Alu Add) (reg_term s rs1) (Const imm)
 
 -- ---- memory
@@ -99,14 +99,14 @@ call_value e k = slice_index e.call k
 
 -- what a call leaves: its answer is a constant, the bytes that a read moves are bytes of the input, and those that the break moves
 -- past are zero
-abbrev pub after_reply : Terms → Event → Reply → Terms
+abbrev pub after_reply : SymbolicState → Event → Reply → SymbolicState
 after_reply s e (Answers v) = put_reg 10 (Const v) s
 after_reply s e (Moves k) = put_reg 10 (Const k) (record s { bytes = put_trees s.bytes (call_value e 2) (input_terms s.place k); place = s.place + k })
 after_reply s e (Breaks h a) = put_reg 10 (Const a) (record s { bytes = zero_between s.bytes h.brk a; cells = with_break s.cells h.brk a; heap = Some (record { start = h.start; brk = a }) })
 after_reply s e (Exits code) = s
 
 -- what an instruction leaves, by its event; n is the input's length
-abbrev pub after_row : Making → ℕ → Terms → Event → Instr → Terms
+abbrev pub after_row : Making → ℕ → SymbolicState → Event → Instr → SymbolicState
 after_row made n s e (Lui rd imm) = put_reg rd (Const (bits imm)) s
 after_row made n s e (Auipc rd imm) = put_reg rd (Const ((e.pc + bits imm) % 2 ^ 32)) s
 after_row made n s e (Jal rd offset) = put_reg rd (Const (following e.pc)) s
@@ -121,15 +121,15 @@ after_row made n s e Ecall = after_reply s e (reply_to s.cells s.heap (n - s.pla
 after_row made n s e Ebreak = s
 
 -- an illegal word leaves the terms as they are
-abbrev pub after_instr : Making → ℕ → Terms → Event → Option Instr → Terms
+abbrev pub after_instr : Making → ℕ → SymbolicState → Event → Option Instr → SymbolicState
 after_instr made n s e None = s
 after_instr made n s e (Some i) = after_row made n s e i
 
 -- the terms after an event
-unfoldable pub terms_after : Making → ℕ → Terms → Event → Terms
+unfoldable pub terms_after : Making → ℕ → SymbolicState → Event → SymbolicState
 terms_after made n s e = after_instr made n s e (decoded e.word)
 
 -- at the start of a program all terms are constants
-abbrev pub start_terms : List Segment → Terms
+abbrev pub start_terms : List Segment → SymbolicState
 start_terms segments =
     record { registers = map Const start_registers; bytes = λ a. Const (byte_at (start_map segments) a); place = 0; cells = start_map segments; heap = start_heap segments }

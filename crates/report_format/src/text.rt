@@ -4,7 +4,8 @@ ghost use Rattle.std.specs.Prelude.{◌≡◌, ◌<◌, ◌≤◌, ◌++◌, [],
 ghost use Rattle.std.specs.String.{string_bytes};
 ghost use Rattle.input_laws.specs.Sets.{size};
 ghost use Rattle.byte_sets.specs.ByteSet.{has};
-ghost use Rattle.report_format.specs.Text.{content_of, word_digits, kind_name, program_line, trap_line, data_lines, set_line, lines_of_set, set_lines, revealed_line, head, tail, joined, text};
+ghost use Rattle.report_format.specs.Text.{content_of, word_digits, kind_name, program_line, trap_line, data_lines};
+ghost use Rattle.report_format.specs.Text.{set_line, lines_of_set, set_lines, revealed_line, head, tail, joined, text};
 
 use crate::{Bytes, Report};
 use byte_sets::{ByteSet, revealed};

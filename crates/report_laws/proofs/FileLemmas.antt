@@ -5,7 +5,7 @@ use Rattle.std.proofs.lemmas.List.Elements.{All-cons, All-head, All-tail, All-ma
 use Rattle.elf32.specs.declared.segments.Segment.{Segment}
 use Rattle.elf32.specs.Fields.{headers}
 use Rattle.elf32.specs.Rules.{is_loaded}
-use Rattle.elf32.specs.Loads.{image_of, put, in_order, segment_of, segments_of}
+use Rattle.elf32.specs.Loads.{loaded_program, put, in_order, segment_of, segments_of}
 use Rattle.term_model.specs.Words.{AreBytes}
 use Rattle.term_model.proofs.ByteLemmas.{bytes_everywhere}
 use Rattle.replay_law.specs.Crash.{IsProgram}
@@ -28,7 +28,7 @@ order_keeps [] all = all
 order_keeps (s ∷ ss) all = put_keeps s (in_order ss) (All-head HoldsBytes s ss all) (order_keeps ss (All-tail HoldsBytes s ss all))
 
 -- what a file of bytes loads holds bytes
-pub file_is_program : (p : List ℕ) → All (λ byte. byte < 256) p → (image_of p).entry % 4 ≡ 0 → IsProgram (image_of p)
+pub file_is_program : (p : List ℕ) → All (λ byte. byte < 256) p → (loaded_program p).entry % 4 ≡ 0 → IsProgram (loaded_program p)
 file_is_program p h aligned = record {
   aligned = aligned;
   bytes = order_keeps (segments_of p (headers p))

@@ -1,7 +1,7 @@
 -- The report that a program, the seed, the limit of steps and the trace fix.
 use Rattle.std.specs.Prelude.{ℕ, Bool, List, [], Option, length, unwrap_or}
 use Rattle.sha2.specs.Sha256.{sha256}
-use Rattle.elf32.specs.Loads.{Program, image_of}
+use Rattle.elf32.specs.Loads.{Program, loaded_program}
 use Rattle.rv_event.specs.declared.event.Trap.{Trap}
 use Rattle.rv_event.specs.declared.transcript.Transcript.{Transcript}
 use Rattle.rv_machine.specs.Class.{in_class}
@@ -48,4 +48,4 @@ report_with p seed t trap input sets = record {
 
 -- the report with the first input and its sets
 unfoldable pub report_of : List ℕ → ℕ → ℕ → Transcript → Trap → Content
-report_of p seed limit t trap = report_with p seed t trap (first_input (image_of p) seed limit t) (sets_of (image_of p) seed limit t)
+report_of p seed limit t trap = report_with p seed t trap (first_input (loaded_program p) seed limit t) (sets_of (loaded_program p) seed limit t)

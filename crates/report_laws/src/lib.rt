@@ -5,7 +5,7 @@
 #![tactic(auto)]
 
 ghost use Rattle.std.specs.Prelude.{◌≡◌, ◌*◌, ◌^◌, ◌<◌, ◌≤◌, ℕ, Bool, List, None, false, length, All, filter, find, option_map, sum_by};
-ghost use Rattle.elf32.specs.Loads.{Program, image_of};
+ghost use Rattle.elf32.specs.Loads.{Program, loaded_program};
 ghost use Rattle.elf32.specs.Rules.{refusal};
 ghost use Rattle.rv_event.specs.declared.transcript.Transcript.{Transcript};
 ghost use Rattle.term_model.specs.Tree.{Tree};
@@ -36,7 +36,7 @@ pub fn the_mask_is_an_input()
 /// What a file of bytes loads, where it breaks no rule, is a program: its entry point is a multiple
 /// of 4, and its segments hold bytes.
 pub fn files_are_programs()
-    ensures { (bytes : List ℕ) → All (λ byte. byte < 256) bytes → refusal bytes ≡ None → IsProgram (image_of bytes) }
+    ensures { (bytes : List ℕ) → All (λ byte. byte < 256) bytes → refusal bytes ≡ None → IsProgram (loaded_program bytes) }
 {}
 
 /// Of all inputs with the length and the trace of some input, the report's comes first in the
@@ -125,12 +125,14 @@ pub fn groups_make_the_report()
         AreDivided trees (conditions_of program t) t.n groups →
         spent_of program seed t budget
         ≡ option_map (λ g. place_and_width g.places) (find (is_spent trees (mask seed t.n) budget) groups) }
-    ensures input { (program : Program) (seed limit : ℕ) (x : List ℕ) (t : Transcript) (trees : List Tree) (groups : List Group) (input : List ℕ) (sets : List (ℕ → Bool)) →
+    ensures input { (program : Program) (seed limit : ℕ) (x : List ℕ) (t : Transcript) (trees : List Tree) (groups : List Group)
+        (input : List ℕ) (sets : List (ℕ → Bool)) →
         IsProgram program → IsCrash program limit x t →
         AreDivided trees (conditions_of program t) t.n groups → IsInput t.n input →
         IsFilled trees (mask seed t.n) groups (length groups) input sets →
         input ≡ first_input program seed limit t }
-    ensures sets { (program : Program) (seed limit : ℕ) (x : List ℕ) (t : Transcript) (trees : List Tree) (groups : List Group) (input : List ℕ) (sets : List (ℕ → Bool)) →
+    ensures sets { (program : Program) (seed limit : ℕ) (x : List ℕ) (t : Transcript) (trees : List Tree) (groups : List Group)
+        (input : List ℕ) (sets : List (ℕ → Bool)) →
         IsProgram program → IsCrash program limit x t →
         AreDivided trees (conditions_of program t) t.n groups → IsInput t.n input →
         IsFilled trees (mask seed t.n) groups (length groups) input sets →

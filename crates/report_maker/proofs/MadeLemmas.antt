@@ -3,11 +3,11 @@ use Rattle.std.proofs.Common.{◌≡◌, ◌∙◌, ◌+◌, ◌<◌, ◌≤◌,
 use Rattle.std.specs.Prelude.{None, filter, find, All, IfOk, option_map, sum_by, if◌then◌else◌}
 use Rattle.std.proofs.lemmas.List.Sums.{sum_by-cons}
 use Rattle.elf32.specs.declared.image.Image.{Image}
-use Rattle.elf32.specs.Loads.{Program, image_of, program_of}
+use Rattle.elf32.specs.Loads.{Program, loaded_program, program_of}
 use Rattle.rv_event.specs.declared.event.Trap.{Trap}
 use Rattle.rv_event.specs.declared.transcript.Transcript.{Transcript}
 use Rattle.rv_machine.specs.State.{State, start}
-use Rattle.rv_machine.specs.Trace.{trace, transcript_of}
+use Rattle.rv_machine.specs.Trace.{trace_from, transcript_of}
 use Rattle.term_model.specs.Tree.{Tree}
 use Rattle.term_arena.specs.Trees.{trees_of}
 use Rattle.replay_law.specs.Crash.{IsProgram, IsTrapped, IsCrash, AreProper}
@@ -35,30 +35,30 @@ value_has (Ok x) P Q more h = more x h
 value_has (Err e) P Q more h = h
 
 -- the program of the file's image
-pub same_program : (image : Image) (p : List ℕ) → image.entry ≡ (image_of p).entry → image.segments ≡ (image_of p).segments → program_of image ≡ image_of p
+pub same_program : (image : Image) (p : List ℕ) → image.entry ≡ (loaded_program p).entry → image.segments ≡ (loaded_program p).segments → program_of image ≡ loaded_program p
 same_program image p entry segments = λ i. record { entry = entry i; segments = segments i }
 
 -- the program of a file with an image
-pub image_gives_program : (image : Image) (p : List ℕ) → All (λ byte. byte < 256) p → image.entry ≡ (image_of p).entry → IsProgram (image_of p)
+pub image_gives_program : (image : Image) (p : List ℕ) → All (λ byte. byte < 256) p → image.entry ≡ (loaded_program p).entry → IsProgram (loaded_program p)
 image_gives_program image p h entry = file_is_program p h (subst (λ e. e % 4 ≡ 0) entry image.aligned)
 
 -- the groups by another name, and by the file's program
-pub divided_along : (image : Image) (p : List ℕ) (t : Transcript) (trees : List Tree) (groups given : List Group) → image.entry ≡ (image_of p).entry → image.segments ≡ (image_of p).segments → given ≡ groups
-    → AreDivided trees (conditions_of (program_of image) t) t.n groups → AreDivided trees (conditions_of (image_of p) t) t.n given
+pub divided_along : (image : Image) (p : List ℕ) (t : Transcript) (trees : List Tree) (groups given : List Group) → image.entry ≡ (loaded_program p).entry → image.segments ≡ (loaded_program p).segments → given ≡ groups
+    → AreDivided trees (conditions_of (program_of image) t) t.n groups → AreDivided trees (conditions_of (loaded_program p) t) t.n given
 divided_along image p t trees groups given entry segments is divided =
-    subst (AreDivided trees (conditions_of (image_of p) t) t.n) (sym is) (subst (λ q. AreDivided trees (conditions_of q t) t.n groups) (same_program image p entry segments) divided)
+    subst (AreDivided trees (conditions_of (loaded_program p) t) t.n) (sym is) (subst (λ q. AreDivided trees (conditions_of q t) t.n groups) (same_program image p entry segments) divided)
 
 -- a run that a trap ended has an event
-some_events : (limit : ℕ) (x : List ℕ) (s : State) → IsTrapped (trace limit x s).end → 0 < length (trace limit x s).events
-unfolding trace
+some_events : (limit : ℕ) (x : List ℕ) (s : State) → IsTrapped (trace_from limit x s).end → 0 < length (trace_from limit x s).events
+unfolding trace_from
 some_events zero x s trapped = absurd trapped
 some_events (suc limit) x s trapped = omega arith
 
 pub crash_has_events : (program : Program) (limit : ℕ) (x : List ℕ) (t : Transcript) → IsCrash program limit x t → 0 < length t.events
 unfolding transcript_of
 crash_has_events program limit x t crash =
-    subst (λ (run : Transcript). 0 < length run.events) (sym crash.trace)
-    (some_events limit x (start program.entry program.segments) (subst (λ (run : Transcript). IsTrapped run.end) crash.trace crash.trapped))
+    subst (λ (run : Transcript). 0 < length run.events) (sym crash.trace_from)
+    (some_events limit x (start program.entry program.segments) (subst (λ (run : Transcript). IsTrapped run.end) crash.trace_from crash.trapped))
 
 -- the conflicts of all groups are those of the wide ones
 pub wide_sum : (trees : List Tree) (order : List ℕ) (groups : List Group)
@@ -76,7 +76,7 @@ wide_sum trees order (g ∷ groups) = sum_by-cons (conflicts_at trees order) g g
 
 -- the report with the first input and its sets is the one that is stated
 pub report_is : (p : List ℕ) (seed limit : ℕ) (t : Transcript) (trap : Trap) (content : Content) (input : List ℕ) (sets : List (ℕ → Bool))
-    → content ≡ report_with p seed t trap input sets → input ≡ first_input (image_of p) seed limit t → sets ≡ sets_of (image_of p) seed limit t → content ≡ report_of p seed limit t trap
+    → content ≡ report_with p seed t trap input sets → input ≡ first_input (loaded_program p) seed limit t → sets ≡ sets_of (loaded_program p) seed limit t → content ≡ report_of p seed limit t trap
 unfolding report_of
 report_is p seed limit t trap content input sets says is_input are_sets = says ∙ (λ i. report_with p seed t trap (is_input i) (are_sets i))
 

@@ -1,7 +1,7 @@
 //! The report of a run.
 
 ghost use Rattle.std.specs.Prelude.{◌≡◌, ◌≤◌, ◌<◌, ℕ, List, None, Some, Err, length, map, IfOk};
-ghost use Rattle.elf32.specs.Loads.{image_of, program_of};
+ghost use Rattle.elf32.specs.Loads.{loaded_program, program_of};
 ghost use Rattle.rv_event.specs.declared.event.End.TheVariants as ends;
 ghost use Rattle.rv_event.specs.declared.event.Trap.{Trap as Crash};
 ghost use Rattle.replay_law.specs.Crash.{IsProgram, IsTrapped, IsCrash};
@@ -116,18 +116,18 @@ pub fn make_report(
     requires short { length program.now ≤ 16777216 }
     requires few { transcript.now.n ≤ 65536 }
     requires events { length transcript.now.events ≤ 10000000 }
-    requires entry { image.now.entry ≡ (image_of program.now).entry }
-    requires segments { image.now.segments ≡ (image_of program.now).segments }
-    requires traced { (limit : ℕ) × (x : List ℕ) × IsCrash (image_of program.now) limit x transcript.now }
+    requires entry { image.now.entry ≡ (loaded_program program.now).entry }
+    requires segments { image.now.segments ≡ (loaded_program program.now).segments }
+    requires traced { (limit : ℕ) × (x : List ℕ) × IsCrash (loaded_program program.now) limit x transcript.now }
     requires budget { 0 < budget }
     ensures report { IfOk result (λ made. (limit : ℕ) (x : List ℕ) (trap : Crash) →
-        IsCrash (image_of program.now) limit x transcript.now → transcript.now.end ≡ ends.Trap trap →
+        IsCrash (loaded_program program.now) limit x transcript.now → transcript.now.end ≡ ends.Trap trap →
         content_of made.report ≡ report_of program.now seed limit transcript.now trap) }
-    ensures groups { IfOk result (λ made. made.groups ≡ number_of_groups (image_of program.now) transcript.now) }
-    ensures conflicts { IfOk result (λ made. made.conflicts ≡ number_of_conflicts (image_of program.now) seed transcript.now) }
-    ensures unspent { IfOk result (λ _. spent_of (image_of program.now) seed transcript.now budget ≡ None) }
+    ensures groups { IfOk result (λ made. made.groups ≡ number_of_groups (loaded_program program.now) transcript.now) }
+    ensures conflicts { IfOk result (λ made. made.conflicts ≡ number_of_conflicts (loaded_program program.now) seed transcript.now) }
+    ensures unspent { IfOk result (λ _. spent_of (loaded_program program.now) seed transcript.now budget ≡ None) }
     ensures spent { (first width : ℕ) → result ≡ Err (Spent first width) →
-        spent_of (image_of program.now) seed transcript.now budget ≡ Some (first, width) }
+        spent_of (loaded_program program.now) seed transcript.now budget ≡ Some (first, width) }
 {
     groups_make_the_report();
     choices_have_the_trace();

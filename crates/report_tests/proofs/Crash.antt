@@ -1,7 +1,7 @@
 -- Runs that crash.
 use Rattle.std.proofs.Common.{◌≡◌, ◌≤◌, ℕ, List, length, sym, ap, arith, subst}
 use Rattle.elf32.specs.declared.image.Image.{Image}
-use Rattle.elf32.specs.Loads.{Program, image_of, program_of}
+use Rattle.elf32.specs.Loads.{Program, loaded_program, program_of}
 use Rattle.rv_event.specs.declared.event.End.{End}
 use Rattle.rv_event.specs.declared.event.End.TheVariants as ends
 use Rattle.rv_event.specs.declared.event.Trap.{Trap}
@@ -24,16 +24,16 @@ trapped (ends.Trap t) trap is = tt
 trapped (ends.Exit code) trap is = cc
 trapped ends.Limit trap is = cc
 
-crash : (p x : List ℕ) (limit : ℕ) (t : Transcript) (trap : Trap) → AreBytes x → t ≡ transcript_of (image_of p) x limit → t.end ≡ ends.Trap trap → IsCrash (image_of p) limit x t
+crash : (p x : List ℕ) (limit : ℕ) (t : Transcript) (trap : Trap) → AreBytes x → t ≡ transcript_of (loaded_program p) x limit → t.end ≡ ends.Trap trap → IsCrash (loaded_program p) limit x t
 crash p x limit t trap bytes is end =
-    record { input = record { long = sym (length-told (image_of p) x limit t is); in_range = bytes_within x bytes }; trace = is; trapped = trapped t.end trap end }
+    record { input = record { long = sym (length-told (loaded_program p) x limit t is); in_range = bytes_within x bytes }; trace = is; trapped = trapped t.end trap end }
 
 -- the program of the file's image
-same_program : (image : Image) (p : List ℕ) → image.entry ≡ (image_of p).entry → image.segments ≡ (image_of p).segments → program_of image ≡ image_of p
+same_program : (image : Image) (p : List ℕ) → image.entry ≡ (loaded_program p).entry → image.segments ≡ (loaded_program p).segments → program_of image ≡ loaded_program p
 same_program image p entry segments = λ i. record { entry = entry i; segments = segments i }
 
 -- a run of a file's image on an input, ended by a trap, is a crash of the file's program
-pub crash-of-image : (p x : List ℕ) (limit : ℕ) (image : Image) (t : Transcript) (trap : Trap) → AreBytes x → image.entry ≡ (image_of p).entry → image.segments ≡ (image_of p).segments
-    → t ≡ transcript_of (program_of image) x limit → t.end ≡ ends.Trap trap → (limit : ℕ) × (x : List ℕ) × IsCrash (image_of p) limit x t
+pub crash-of-image : (p x : List ℕ) (limit : ℕ) (image : Image) (t : Transcript) (trap : Trap) → AreBytes x → image.entry ≡ (loaded_program p).entry → image.segments ≡ (loaded_program p).segments
+    → t ≡ transcript_of (program_of image) x limit → t.end ≡ ends.Trap trap → (limit : ℕ) × (x : List ℕ) × IsCrash (loaded_program p) limit x t
 crash-of-image p x limit image t trap bytes is_entry is_segments is end =
     (limit, x, crash p x limit t trap bytes (subst (λ program. t ≡ transcript_of program x limit) (same_program image p is_entry is_segments) is) end)

@@ -55,7 +55,8 @@ pub const SUM_OF_FOUR: [u32; 16] = [
     0x0010_0073,
 ];
 
-/// Reads 16 bytes, and meets an EBREAK where their CRC-16/IBM-3740 (polynomial 1021 from FFFF; 29B1 of the text `123456789`) is 8D6E, that of the text `123456789abcdefg`. Else it exits.
+/// Reads 16 bytes, and meets an EBREAK where their CRC-16/IBM-3740 (polynomial 1021 from FFFF; 29B1 of the text
+/// `123456789`) is 8D6E, that of the text `123456789abcdefg`. Else it exits.
 pub const CHECKSUM: [u32; 32] = [
     0x0001_0593,
     0x0100_0613,
@@ -91,7 +92,8 @@ pub const CHECKSUM: [u32; 32] = [
     0x0010_0073,
 ];
 
-/// Reads three bytes, and looks up the byte of its own code at 00010000 and their sum modulo 16; meets an EBREAK where that is 48, the byte at 6. Else it exits.
+/// Reads three bytes, and looks up the byte of its own code at 00010000 and their sum modulo 16; meets an EBREAK
+/// where that is 48, the byte at 6. Else it exits.
 pub const LOOK_UP: [u32; 18] = [
     0x0001_0593,
     0x0030_0613,
@@ -155,7 +157,8 @@ pub const DECIMAL: [u32; 21] = [
     0x0010_0073,
 ];
 
-/// Reads seven bytes, and meets an EBREAK where the bytes 0, 2 and 4 add up to 100, the lowest bits of 1, 3 and 5 have an odd sum, byte 5 is 128 or more, and byte 6 is below 10. Else it exits.
+/// Reads seven bytes, and meets an EBREAK where the bytes 0, 2 and 4 add up to 100, the lowest bits of 1, 3 and 5
+/// have an odd sum, byte 5 is 128 or more, and byte 6 is below 10. Else it exits.
 pub const TWO_TRIPLES_AND_A_BYTE: [u32; 29] = [
     0x0001_0593,
     0x0070_0613,

@@ -11,7 +11,7 @@ use Rattle.elf32.specs.declared.header.Header.{Header}
 use Rattle.elf32.specs.declared.span.Span.{Span}
 use Rattle.elf32.specs.declared.segments.Segment.{Segment}
 use Rattle.elf32.specs.Spans.{stack, share, overlap}
-use Rattle.elf32.specs.Fields.{word_at, header_at, headers_at, headers, e_phoff, e_phnum, e_phentsize, e_entry}
+use Rattle.elf32.specs.Fields.{word_in, header_at, headers_at, headers, e_phoff, e_phnum, e_phentsize, e_entry}
 use Rattle.elf32.specs.Rules as rule
 use Rattle.elf32.specs.Loads as load
 use Rattle.rv_assemble.specs.declared.region.Region.{Region}
@@ -38,7 +38,7 @@ headers_of offset (r ∷ rs) = header_of offset r ∷ headers_of (offset + lengt
 at_skip : (front xs : List ℕ) (p k : ℕ) → p ≡ length front + k → get_or (front ++ xs) p 0 ≡ get_or xs k 0
 at_skip front xs p k e = ap (λ n. get_or (front ++ xs) n 0) e ∙ get_or-append-add front xs k 0
 
-word_skip : (front xs : List ℕ) (p k : ℕ) → p ≡ length front + k → word_at (front ++ xs) p ≡ word_at xs k
+word_skip : (front xs : List ℕ) (p k : ℕ) → p ≡ length front + k → word_in (front ++ xs) p ≡ word_in xs k
 word_skip front xs p k e =
     let a = at_skip front xs p k e in
     let b = at_skip front xs (p + 1) (k + 1) (omega arith) in
@@ -308,7 +308,7 @@ accepted rs can =
     size
     (entry_read rs)
 
-pub image_read : (rs : List Region) → CanBe rs → (load.image_of (file_of rs)).segments ≡ load.in_order (segments_of rs)
+pub image_read : (rs : List Region) → CanBe rs → (load.loaded_program (file_of rs)).segments ≡ load.in_order (segments_of rs)
 unfolding file_of
 image_read rs can =
     let start : ℕ = 52 + 32 * length rs in

@@ -8,7 +8,7 @@ use Rattle.elf32.specs.Spans.{stack, overlap}
 use Rattle.rv_assemble.specs.declared.region.Region.{Region}
 use Rattle.elf32.specs.Fields.{e_entry}
 use Rattle.elf32.specs.Rules.{refusal}
-use Rattle.elf32.specs.Loads.{image_of}
+use Rattle.elf32.specs.Loads.{loaded_program}
 use Rattle.rv_decode.specs.declared.instr.Instr.{Instr}
 use Rattle.rv_assemble.specs.Layout.{file_of}
 use Rattle.rv_assemble.specs.Parts.{IsRegion, held, span_of, places, CanLoad, code_region, Spells, IsFile, file_length}
@@ -67,7 +67,7 @@ built code rs text file is region spells few all can =
         text = text.bytes;
         spells = spells;
         written = whole;
-        segments = ap (λ b. (image_of b).segments) whole ∙ image_read (code_region text.bytes ∷ rs) ready;
+        segments = ap (λ b. (loaded_program b).segments) whole ∙ image_read (code_region text.bytes ∷ rs) ready;
       };
       accepted = ap refusal whole ∙ accepted (code_region text.bytes ∷ rs) ready;
       entry = ap e_entry whole ∙ entry_read (code_region text.bytes ∷ rs);

@@ -6,7 +6,7 @@ use Rattle.rv_decode.specs.Table.{decoded}
 use Rattle.elf32.specs.declared.span.Span.{Span}
 use Rattle.elf32.specs.declared.segments.Segment.{Segment}
 use Rattle.elf32.specs.Spans.{stack, overlap}
-use Rattle.elf32.specs.Loads.{image_of, in_order}
+use Rattle.elf32.specs.Loads.{loaded_program, in_order}
 use Rattle.rv_assemble.specs.declared.region.Region.{Region}
 use Rattle.rv_assemble.specs.Layout.{word, file_of}
 
@@ -62,4 +62,4 @@ pub record IsFile (code : List Instr) (regions : List Region) (bytes : List ℕ)
   pub text : List ℕ
   pub spells : Spells text code
   pub written : bytes ≡ file_of (code_region text ∷ regions)
-  pub segments : (image_of bytes).segments ≡ in_order (segments_of (code_region text ∷ regions))
+  pub segments : (loaded_program bytes).segments ≡ in_order (segments_of (code_region text ∷ regions))

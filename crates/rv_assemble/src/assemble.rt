@@ -4,7 +4,7 @@ ghost use Rattle.std.specs.Prelude.{◌≡◌, ◌+◌, ◌<◌, ◌≤◌, ◌�
 ghost use Rattle.std.specs.List.{All};
 ghost use Rattle.rv_decode.specs.Rows.{IsWellFormed};
 ghost use Rattle.elf32.specs.Rules.{refusal};
-ghost use Rattle.elf32.specs.Loads.{image_of};
+ghost use Rattle.elf32.specs.Loads.{loaded_program};
 ghost use Rattle.rv_assemble.specs.Layout.{file_of};
 ghost use Rattle.rv_assemble.specs.Parts.{places, CanLoad, IsRegion, held, file_length, IsFile};
 
@@ -55,7 +55,7 @@ pub fn build(alloc: Global, code: &[Instr], regions: &[Region]) -> Result<Bytes,
     requires memory { CanLoad (places (length code.now) regions.now) }
     ensures file { IfOk result (λ b. IsFile code.now regions.now b) }
     ensures accepted { IfOk result (λ b. refusal b ≡ None) }
-    ensures entry { IfOk result (λ b. (image_of b).entry ≡ 0x10000) }
+    ensures entry { IfOk result (λ b. (loaded_program b).entry ≡ 0x10000) }
     ensures length { IfOk result (λ b. length b ≡ file_length (length code.now) regions.now) }
     ensures long { IsErrOf result BuildError.TooLong ↔ (16777216 < file_length (length code.now) regions.now) }
 {

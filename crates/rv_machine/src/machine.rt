@@ -6,7 +6,8 @@ ghost use Rattle.memory_map.specs.Cells as cells;
 ghost use Rattle.rv_decode.specs.Rows.{IsWellFormed};
 ghost use Rattle.rv_machine.specs.State.{Goes, Ends, reg, write_reg, at, following, bits, no_call, event_of, trap, start};
 ghost use Rattle.rv_machine.specs.Calls.{read_reply, write_reply, break_reply, reply_to};
-ghost use Rattle.rv_machine.specs.Effects.{goes_on, taken, jump, exit, size_of, stored, address_of, after_load, after_store, input_bytes, after_call, effect, step};
+ghost use Rattle.rv_machine.specs.Effects.{goes_on, taken, jump, exit, size_of, stored, address_of, after_load};
+ghost use Rattle.rv_machine.specs.Effects.{after_store, input_bytes, after_call, effect, step};
 ghost use Rattle.rv_machine.specs.Progress.{Follows, EndsRun};
 ghost use Rattle.rv_machine.specs.Plain.{IsPlain};
 
@@ -57,7 +58,16 @@ impl Model for Machine {
 
     ghost coded = { progress_code };
 
-    ghost view = { λ m. record { state = record { registers = m.registers; pc = m.pc; memory = m.memory.map; heap = m.memory.heap; place = m.place }; over = m.over } };
+    ghost view = { λ m. record {
+      state = record {
+        registers = m.registers;
+        pc = m.pc;
+        memory = m.memory.map;
+        heap = m.memory.heap;
+        place = m.place;
+      };
+      over = m.over;
+    } };
 }
 
 /// Whether a branch is taken.
@@ -209,7 +219,8 @@ impl Machine {
     /// The event of a call.
     fn call_event(&self, word: u32) -> Event
         ensures { result
-            ≡ event_of self.now.state word 0 (reg self.now.state 17 ∷ reg self.now.state 10 ∷ reg self.now.state 11 ∷ reg self.now.state 12 ∷ []) EventKind.Call }
+            ≡ event_of self.now.state word 0 (reg self.now.state 17 ∷ reg self.now.state 10 ∷ reg self.now.state 11
+            ∷ reg self.now.state 12 ∷ []) EventKind.Call }
     {
         let call = [self.read(17), self.read(10), self.read(11), self.read(12)];
         Event {
@@ -224,7 +235,8 @@ impl Machine {
     /// Loads a register.
     fn load(&mut self, width: Width, register: u8, address: u32) -> Option<End>
         requires { register < 32 }
-        ensures { Follows self.old (after_load self.old.state width register address (first_without cells.read self.old.state.memory address (size_of width))) result self.new }
+        ensures { Follows self.old (after_load self.old.state width register address
+            (first_without cells.read self.old.state.memory address (size_of width))) result self.new }
     {
         match loaded(&self.memory, width, address) {
             Ok(value) => self.finish(register, value),
@@ -234,7 +246,8 @@ impl Machine {
 
     /// Stores the lowest bytes of a value, or none of them where one may not be written.
     fn store(&mut self, width: Width, address: u32, value: u32) -> Option<End>
-        ensures { Follows self.old (after_store self.old.state width value address (first_without cells.write self.old.state.memory address (size_of width))) result self.new }
+        ensures { Follows self.old (after_store self.old.state width value address
+            (first_without cells.write self.old.state.memory address (size_of width))) result self.new }
     {
         let bytes = value.to_le_bytes();
         match self.memory.store_bytes(address, &bytes[..size_of(width)]) {
@@ -270,7 +283,8 @@ impl Machine {
     fn read_call(&mut self, input: &[u8]) -> Option<End>
         requires place { self.old.state.place ≤ length input.now }
         requires size { length input.now ≤ 65536 }
-        ensures { Follows self.old (after_call input.now self.old.state (read_reply self.old.state.memory (length input.now - self.old.state.place) (reg self.old.state 10) (reg self.old.state 11) (reg self.old.state 12))) result self.new }
+        ensures { Follows self.old (after_call input.now self.old.state (read_reply self.old.state.memory
+            (length input.now - self.old.state.place) (reg self.old.state 10) (reg self.old.state 11) (reg self.old.state 12))) result self.new }
     {
         if self.read(10) != 0 {
             return self.answer(BAD_DESCRIPTOR);
@@ -290,7 +304,8 @@ impl Machine {
     /// The call write, which discards its bytes.
     fn write_call(&mut self) -> Option<End>
         ensures { (input : List ℕ) →
-            Follows self.old (after_call input self.old.state (write_reply self.old.state.memory (reg self.old.state 10) (reg self.old.state 11) (reg self.old.state 12))) result self.new }
+            Follows self.old (after_call input self.old.state (write_reply self.old.state.memory (reg self.old.state 10)
+            (reg self.old.state 11) (reg self.old.state 12))) result self.new }
     {
         let descriptor = self.read(10);
         if descriptor != 1 && descriptor != 2 {
@@ -332,7 +347,9 @@ impl Machine {
     fn call(&mut self, input: &[u8]) -> Option<End>
         requires place { self.old.state.place ≤ length input.now }
         requires size { length input.now ≤ 65536 }
-        ensures { Follows self.old (after_call input.now self.old.state (reply_to self.old.state.memory self.old.state.heap (length input.now - self.old.state.place) (reg self.old.state 17) (reg self.old.state 10) (reg self.old.state 11) (reg self.old.state 12))) result self.new }
+        ensures { Follows self.old (after_call input.now self.old.state (reply_to self.old.state.memory self.old.state.heap
+            (length input.now - self.old.state.place) (reg self.old.state 17) (reg self.old.state 10) (reg self.old.state 11)
+            (reg self.old.state 12))) result self.new }
     {
         match self.read(17) {
             63 => self.read_call(input),

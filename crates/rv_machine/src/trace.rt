@@ -2,7 +2,7 @@
 
 ghost use Rattle.std.specs.Prelude.{◌≡◌, ◌≤◌, false, length, IfOk};
 ghost use Rattle.elf32.specs.Loads.{program_of};
-ghost use Rattle.rv_machine.specs.Trace.{trace, state_after, transcript_of, has_ended};
+ghost use Rattle.rv_machine.specs.Trace.{trace_from, state_after, transcript_of, has_ended};
 
 use crate::machine::Machine;
 use elf32::Image;
@@ -26,8 +26,8 @@ impl Machine {
         requires running { self.old.over ≡ false }
         requires place { self.old.state.place ≤ length input.now }
         requires size { length input.now ≤ 65536 }
-        ensures steps { result.steps ≡ length (trace limit input.now self.old.state).events }
-        ensures end { result.end ≡ (trace limit input.now self.old.state).end }
+        ensures steps { result.steps ≡ length (trace_from limit input.now self.old.state).events }
+        ensures end { result.end ≡ (trace_from limit input.now self.old.state).end }
         ensures over { self.new.over ≡ has_ended result.end }
         ensures state { self.new.state ≡ state_after limit input.now self.old.state }
         ensures place { self.new.state.place ≤ length input.now }
@@ -57,8 +57,8 @@ fn transcribe(
     requires place { machine.state.place ≤ length input.now }
     requires size { length input.now ≤ 65536 }
     ensures n { IfOk result (λ t. t.n ≡ length input.now) }
-    ensures events { IfOk result (λ t. t.events ≡ (trace limit input.now machine.state).events) }
-    ensures end { IfOk result (λ t. t.end ≡ (trace limit input.now machine.state).end) }
+    ensures events { IfOk result (λ t. t.events ≡ (trace_from limit input.now machine.state).events) }
+    ensures end { IfOk result (λ t. t.end ≡ (trace_from limit input.now machine.state).end) }
 {
     let n = input.len() as u32;
     let mut events = Vec::new(alloc);

@@ -16,10 +16,10 @@ use Rattle.memory_map.specs.Heaps.{Space, heap_size, start_heap, may_break, with
 use Rattle.memory_laws.specs.Starts.{AreLoaded}
 use Rattle.memory_laws.proofs.Heaps.{heap_apart}
 use Rattle.rv_machine.specs.Calls.{Reply, Answers, Moves, Breaks, Exits, if_none, break_reply, reply_to}
-use Rattle.replay_law.specs.Terms.{Terms, call_value, after_reply, after_row, after_instr, terms_after}
+use Rattle.replay_law.specs.Terms.{SymbolicState, call_value, after_reply, after_row, after_instr, terms_after}
 use Rattle.term_model.specs.Tree.{Tree, Const}
 use Rattle.memory_map.specs.Layout.{is_among}
-use Rattle.sym_replay.specs.declared.state.State.{State}
+use Rattle.sym_replay.specs.declared.state.ReplayState.{ReplayState}
 use Rattle.sym_replay.specs.States.{HasHeapOf, byte_tree, IsTermIn, IsState}
 
 -- ---- replies
@@ -62,13 +62,13 @@ moved_of : (h : Heap) (a : ℕ) (g : Option Heap) → may_break h a ≡ true →
 moved_of h a None e k = absurd k
 moved_of h a (Some g) e k = (let b = may_is h a e in (k.0, b.0, b.1))
 
-reply_heap : (s : Terms) (e : Event) (r : Reply) (g : Option Heap) → IsOf s.heap r → HasHeapOf s.heap g → HasHeapOf (after_reply s e r).heap g
+reply_heap : (s : SymbolicState) (e : Event) (r : Reply) (g : Option Heap) → IsOf s.heap r → HasHeapOf s.heap g → HasHeapOf (after_reply s e r).heap g
 reply_heap s e (Answers v) g is k = k
 reply_heap s e (Moves n) g is k = k
 reply_heap s e (Breaks h a) g is k = moved_of h a g is.1 (subst (λ (o : Option Heap). HasHeapOf o g) is.0 k)
 reply_heap s e (Exits code) g is k = k
 
-row_heap : (n : ℕ) (s : Terms) (e : Event) (o : Option Instr) (g : Option Heap) → HasHeapOf s.heap g → HasHeapOf (after_instr norm n s e o).heap g
+row_heap : (n : ℕ) (s : SymbolicState) (e : Event) (o : Option Instr) (g : Option Heap) → HasHeapOf s.heap g → HasHeapOf (after_instr norm n s e o).heap g
 row_heap n s e None g k = k
 row_heap n s e (Some (Lui rd imm)) g k = k
 row_heap n s e (Some (Auipc rd imm)) g k = k
@@ -84,7 +84,7 @@ row_heap n s e (Some Ecall) g k = reply_heap s e _ g (reply_of_heap s.cells s.he
 row_heap n s e (Some Ebreak) g k = k
 
 -- an event keeps where the heap starts, and the break where it may be
-pub event_heap : (n : ℕ) (s : Terms) (e : Event) (g : Option Heap) → HasHeapOf s.heap g → HasHeapOf (terms_after norm n s e).heap g
+pub event_heap : (n : ℕ) (s : SymbolicState) (e : Event) (g : Option Heap) → HasHeapOf s.heap g → HasHeapOf (terms_after norm n s e).heap g
 unfolding terms_after
 event_heap n s e g k = row_heap n s e (decoded e.word) g k
 
@@ -161,7 +161,7 @@ swept trees image h a lo hi q o n from most may e f zero left =
     (λ t. let p = passed h.brk a q h.start heap_size from most b.0 b.1 t in zero q p.0 p.1)
 
 -- terms that are left belong to the arena
-pub cleared_state : (trees : List Tree) (s new : State) (lo hi : ℕ) → IsState trees s → new.registers ≡ s.registers → ((q : ℕ) → get nat_cmp new.bytes q ≡ cleared lo hi q (get nat_cmp s.bytes q)) → IsState trees new
+pub cleared_state : (trees : List Tree) (s new : ReplayState) (lo hi : ℕ) → IsState trees s → new.registers ≡ s.registers → ((q : ℕ) → get nat_cmp new.bytes q ≡ cleared lo hi q (get nat_cmp s.bytes q)) → IsState trees new
 cleared_state trees s new lo hi h same left = record {
   registers = subst (λ (rs : List ℕ). All (IsTermIn trees) rs) (sym same) h.registers;
   count = ap length same ∙ h.count;

@@ -8,10 +8,10 @@ use Rattle.rv_event.specs.declared.event.EventKind.{EventKind}
 use Rattle.rv_event.specs.declared.event.EventKind.TheVariants as kinds
 use Rattle.rv_decode.specs.Table.{decoded}
 use Rattle.normal_form.specs.Norm.{norm}
-use Rattle.replay_law.specs.Terms.{Terms}
+use Rattle.replay_law.specs.Terms.{SymbolicState}
 use Rattle.replay_law.specs.Follow.{fetch_conditions, instr_conditions, conditions_by}
 use Rattle.path_condition.proofs.ListLemmas.{grown_trees, with_conditions-none}
-use Rattle.sym_replay.specs.declared.state.State.{State}
+use Rattle.sym_replay.specs.declared.state.ReplayState.{ReplayState}
 use Rattle.sym_replay.specs.States.{register_tree, IsState}
 
 -- two lists of conditions, one after the other
@@ -37,7 +37,7 @@ four_lists t0 t1 t2 t3 t4 p q u v e f g h =
     ∙ sym (with_conditions-append t0 p (q ++ (u ++ v)))
 
 -- the tree of a register in an arena that has grown
-pub grown_register : (old new : List Tree) (s : State) (r : ℕ) → Extends old new → IsState old s → register_tree new s r ≡ register_tree old s r
+pub grown_register : (old new : List Tree) (s : ReplayState) (r : ℕ) → Extends old new → IsState old s → register_tree new s r ≡ register_tree old s r
 grown_register old new s r g h = (λ i. slice_index_or (grown_trees old new g s.registers (λ k d lt. (h.registers k d lt).belongs) i) r (Const 0))
 
 -- no conditions, by a test that is true
@@ -45,7 +45,7 @@ pub none_more : (ts more : List Tree) (b : Bool) → b ≡ true → ts ≡ with_
 none_more ts more b e = sym (with_conditions-none ts) ∙ ap (λ (c : Bool). with_conditions ts (if c then [] else more)) (sym e)
 
 -- the conditions of an event whose word was fetched
-pub fetched_conditions : (s : Terms) (e : Event) (shown : ℕ) (k : EventKind) → (k ≡ kinds.NoFetch → ⊥) → conditions_by norm s e shown k ≡ fetch_conditions norm s e.pc e.word ++ instr_conditions norm s e shown (decoded e.word)
+pub fetched_conditions : (s : SymbolicState) (e : Event) (shown : ℕ) (k : EventKind) → (k ≡ kinds.NoFetch → ⊥) → conditions_by norm s e shown k ≡ fetch_conditions norm s e.pc e.word ++ instr_conditions norm s e shown (decoded e.word)
 fetched_conditions s e shown kinds.NoFetch far = absurd (far refl)
 fetched_conditions s e shown kinds.Plain far = refl
 fetched_conditions s e shown kinds.Load far = refl

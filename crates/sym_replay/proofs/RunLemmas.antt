@@ -9,8 +9,8 @@ use Rattle.term_model.specs.Tree.{Tree}
 use Rattle.normal_form.specs.Norm.{norm}
 use Rattle.memory_map.specs.Cells.{Map, start_map}
 use Rattle.replay_law.specs.Forms.{with_conditions}
-use Rattle.replay_law.specs.Terms.{Terms, terms_after, start_terms}
-use Rattle.replay_law.specs.Follow.{conditions_of, shown_next, follow, conditions}
+use Rattle.replay_law.specs.Terms.{SymbolicState, terms_after, start_terms}
+use Rattle.replay_law.specs.Follow.{event_conditions, shown_next, follow, conditions}
 use Rattle.trace_conditions.specs.Conditions as whole
 use Rattle.path_condition.proofs.ListLemmas.{with_conditions-none}
 use Rattle.sym_replay.proofs.PinLemmas.{with_conditions-append}
@@ -22,15 +22,15 @@ drop_next (x ∷ es) zero e item = let same : x ≡ e = cc in ap (λ h. h ∷ es
 drop_next (x ∷ es) (suc k) e item = drop_next es k e item
 
 -- the conditions of the next event, and those of the events after it
-follow_next : (n : ℕ) (s : Terms) (e : Event) (es : List Event) (end : End) → follow norm n s (e ∷ es) end ≡ conditions_of norm s e (shown_next es end) ++ follow norm n (terms_after norm n s e) es end
+follow_next : (n : ℕ) (s : SymbolicState) (e : Event) (es : List Event) (end : End) → follow norm n s (e ∷ es) end ≡ event_conditions norm s e (shown_next es end) ++ follow norm n (terms_after norm n s e) es end
 unfolding follow
 follow_next n s e es end = refl
 
 -- one more event is followed
-pub next_event : (n : ℕ) (es : List Event) (end : End) (all : List Tree) (k : ℕ) (e : Event) → slice_get es k ≡ Some e → (ts new : List Tree) (s t : Terms) → with_conditions ts (follow norm n s (drop k es) end) ≡ all → new ≡ with_conditions ts (conditions_of norm s e (shown_next (drop (k + 1) es) end)) → t ≡ terms_after norm n s e → with_conditions new (follow norm n t (drop (k + 1) es) end) ≡ all
+pub next_event : (n : ℕ) (es : List Event) (end : End) (all : List Tree) (k : ℕ) (e : Event) → slice_get es k ≡ Some e → (ts new : List Tree) (s t : SymbolicState) → with_conditions ts (follow norm n s (drop k es) end) ≡ all → new ≡ with_conditions ts (event_conditions norm s e (shown_next (drop (k + 1) es) end)) → t ≡ terms_after norm n s e → with_conditions new (follow norm n t (drop (k + 1) es) end) ≡ all
 next_event n es end all k e item ts new s t before added after =
     let next : k + 1 ≡ suc k = omega arith in
-    let first = conditions_of norm s e (shown_next (drop (k + 1) es) end) in
+    let first = event_conditions norm s e (shown_next (drop (k + 1) es) end) in
     let rest = follow norm n (terms_after norm n s e) (drop (k + 1) es) end in
     let split : drop k es ≡ e ∷ drop (k + 1) es = drop_next es k e item ∙ ap (λ j. e ∷ drop j es) (sym next) in
     (λ i. with_conditions (added i) (follow norm n (after i) (drop (k + 1) es) end))
@@ -40,7 +40,7 @@ next_event n es end all k e item ts new s t before added after =
     ∙ before
 
 -- before the first event
-pub at_start : (program : Program) (run : Transcript) (ts : List Tree) (s : Terms) → ts ≡ [] → s ≡ start_terms program.segments → with_conditions ts (follow norm run.n s (drop 0 run.events) run.end) ≡ whole.conditions_of program run
+pub at_start : (program : Program) (run : Transcript) (ts : List Tree) (s : SymbolicState) → ts ≡ [] → s ≡ start_terms program.segments → with_conditions ts (follow norm run.n s (drop 0 run.events) run.end) ≡ whole.conditions_of program run
 unfolding whole.conditions_of conditions
 at_start program run ts s none start = (λ i. with_conditions (none i) (follow norm run.n (start i) (drop 0 run.events) run.end))
 
@@ -50,12 +50,12 @@ drop_all [] (suc k) e = refl
 drop_all (x ∷ es) zero e = absurd (omega arith)
 drop_all (x ∷ es) (suc k) e = drop_all es k (omega arith)
 
-follow_none : (n : ℕ) (s : Terms) (end : End) → follow norm n s [] end ≡ []
+follow_none : (n : ℕ) (s : SymbolicState) (end : End) → follow norm n s [] end ≡ []
 unfolding follow
 follow_none n s end = refl
 
 -- after the last event
-pub at_end : (n : ℕ) (es : List Event) (end : End) (all ts : List Tree) (s : Terms) (k : ℕ) → k ≡ length es → with_conditions ts (follow norm n s (drop k es) end) ≡ all → ts ≡ all
+pub at_end : (n : ℕ) (es : List Event) (end : End) (all ts : List Tree) (s : SymbolicState) (k : ℕ) → k ≡ length es → with_conditions ts (follow norm n s (drop k es) end) ≡ all → ts ≡ all
 at_end n es end all ts s k last before =
     sym (with_conditions-none ts)
     ∙ ap (with_conditions ts) (sym (follow_none n s end))

@@ -7,10 +7,10 @@ use Rattle.term_model.specs.Tree.{Tree, Const, Input}
 use Rattle.term_arena.specs.Trees.{tree_of, Extends, trees_of}
 use Rattle.normal_form.specs.Normal.{IsNormal}
 use Rattle.memory_map.specs.Cells.{Map, next_address}
-use Rattle.replay_law.specs.Terms.{Terms, with_tree, put_trees, input_terms}
+use Rattle.replay_law.specs.Terms.{SymbolicState, with_tree, put_trees, input_terms}
 use Rattle.path_condition.specs.Sums.{IsNormalTermOf}
 use Rattle.path_condition.proofs.ListLemmas.{grown_trees}
-use Rattle.sym_replay.specs.declared.state.State.{State}
+use Rattle.sym_replay.specs.declared.state.ReplayState.{ReplayState}
 use Rattle.sym_replay.specs.States.{byte_tree, terms_of, IsTermIn, IsState}
 
 -- a term of an arena that has grown
@@ -18,11 +18,11 @@ pub grown_term : (old new : List Tree) → Extends old new → (t : ℕ) → IsT
 grown_term old new g t h = record { belongs = omega (arith, h.belongs, g.longer); normal = subst IsNormal (sym (g.same t h.belongs)) h.normal }
 
 -- a state of an arena that has grown
-pub grown_state : (old new : List Tree) (s : State) → Extends old new → IsState old s → IsState new s
+pub grown_state : (old new : List Tree) (s : ReplayState) → Extends old new → IsState old s → IsState new s
 grown_state old new s g h = record { registers = λ k d lt. grown_term old new g _ (h.registers k d lt); count = h.count; bytes = λ a t e. grown_term old new g t (h.bytes a t e) }
 
 -- it stands for the same terms
-pub grown_terms : (old new : List Tree) (s : State) (image : Map) → Extends old new → IsState old s → terms_of new image s ≡ terms_of old image s
+pub grown_terms : (old new : List Tree) (s : ReplayState) (image : Map) → Extends old new → IsState old s → terms_of new image s ≡ terms_of old image s
 grown_terms old new s image g h = (λ i. record {
   registers = grown_trees old new g s.registers (λ k d lt. (h.registers k d lt).belongs) i;
   bytes = λ a. same_byte a (get nat_cmp s.bytes a) refl i;
@@ -36,7 +36,7 @@ grown_terms old new s image g h = (λ i. record {
     same_byte a (Some t) e = g.same t (h.bytes a t e).belongs
 
 -- one more term in memory
-pub put_state : (trees : List Tree) (s : State) (new : BTreeMap ℕ ℕ) (address t : ℕ) → IsState trees s → IsTermIn trees t → Updates nat_cmp s.bytes new address (Some t) → IsState trees (record s { bytes = new })
+pub put_state : (trees : List Tree) (s : ReplayState) (new : BTreeMap ℕ ℕ) (address t : ℕ) → IsState trees s → IsTermIn trees t → Updates nat_cmp s.bytes new address (Some t) → IsState trees (record s { bytes = new })
 put_state trees s new address t h here updates = record {
   registers = h.registers;
   count = h.count;
@@ -69,22 +69,22 @@ pub constant_term : (trees : List Tree) (t v : ℕ) → t < length trees → tre
 constant_term trees t v lt e word = record { belongs = lt; normal = subst IsNormal (sym e) word }
 
 -- a term that was put at an address
-pub found_term : (trees : List Tree) (image : Map) (s : State) (a t : ℕ) → IsState trees s → (o : Option ℕ) → Some t ≡ o → get nat_cmp s.bytes a ≡ o → IsNormalTermOf trees (byte_tree trees image a o) t
+pub found_term : (trees : List Tree) (image : Map) (s : ReplayState) (a t : ℕ) → IsState trees s → (o : Option ℕ) → Some t ≡ o → get nat_cmp s.bytes a ≡ o → IsNormalTermOf trees (byte_tree trees image a o) t
 found_term trees image s a t h o e f =
     subst (λ (p : Option ℕ). IsNormalTermOf trees (byte_tree trees image a p) t) e
     (let here = h.bytes a t (f ∙ sym e) in record { belongs = here.belongs; is = refl; normal = here.normal })
 
 -- terms with others in memory
-abbrev pub with_bytes : Terms → (ℕ → Tree) → Terms
+abbrev pub with_bytes : SymbolicState → (ℕ → Tree) → SymbolicState
 with_bytes s bytes = record s { bytes = bytes }
 
 -- two bytes put one after the other
-pub put_two : (s : Terms) (a : ℕ) (first second : Tree) (t u : Terms) → t ≡ with_bytes s (with_tree s.bytes a first) → u ≡ with_bytes t (with_tree t.bytes (next_address a) second) → u ≡ with_bytes s (put_trees s.bytes a (first ∷ second ∷ []))
+pub put_two : (s : SymbolicState) (a : ℕ) (first second : Tree) (t u : SymbolicState) → t ≡ with_bytes s (with_tree s.bytes a first) → u ≡ with_bytes t (with_tree t.bytes (next_address a) second) → u ≡ with_bytes s (put_trees s.bytes a (first ∷ second ∷ []))
 unfolding put_trees
 put_two s a first second t u e f = f ∙ (λ i. with_bytes (e i) (with_tree (e i).bytes (next_address a) second))
 
 -- four bytes, the first two at once
-pub put_four : (s : Terms) (a : ℕ) (first second third fourth : Tree) (t u v : Terms) → t ≡ with_bytes s (put_trees s.bytes a (first ∷ second ∷ [])) → u ≡ with_bytes t (with_tree t.bytes (next_address (next_address a)) third) → v ≡ with_bytes u (with_tree u.bytes (next_address (next_address (next_address a))) fourth) → v ≡ with_bytes s (put_trees s.bytes a (first ∷ second ∷ third ∷ fourth ∷ []))
+pub put_four : (s : SymbolicState) (a : ℕ) (first second third fourth : Tree) (t u v : SymbolicState) → t ≡ with_bytes s (put_trees s.bytes a (first ∷ second ∷ [])) → u ≡ with_bytes t (with_tree t.bytes (next_address (next_address a)) third) → v ≡ with_bytes u (with_tree u.bytes (next_address (next_address (next_address a))) fourth) → v ≡ with_bytes s (put_trees s.bytes a (first ∷ second ∷ third ∷ fourth ∷ []))
 unfolding put_trees
 put_four s a first second third fourth t u v e f g =
     g
@@ -107,5 +107,5 @@ unfolding put_trees input_terms
 no_input bytes all at place n e none = sym (λ i. put_trees bytes at (input_terms place (none i))) ∙ e
 
 -- the place of a state says nothing of its terms
-pub placed_state : (trees : List Tree) (s : State) (place : ℕ) → IsState trees s → IsState trees (record s { place = place })
+pub placed_state : (trees : List Tree) (s : ReplayState) (place : ℕ) → IsState trees s → IsState trees (record s { place = place })
 placed_state trees s place h = record { registers = h.registers; count = h.count; bytes = h.bytes }

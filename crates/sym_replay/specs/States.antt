@@ -8,8 +8,8 @@ use Rattle.normal_form.specs.Normal.{IsNormal}
 use Rattle.memory_map.specs.Cells.{Map, byte_at}
 use Rattle.memory_map.specs.declared.heap.Heap.{Heap}
 use Rattle.memory_map.specs.Heaps.{heap_size}
-use Rattle.replay_law.specs.Terms.{Terms}
-use Rattle.sym_replay.specs.declared.state.State.{State}
+use Rattle.replay_law.specs.Terms.{SymbolicState}
+use Rattle.sym_replay.specs.declared.state.ReplayState.{ReplayState}
 
 -- the tree at an address: that of a term that was put there, or the constant of the image's byte
 abbrev pub byte_tree : List Tree → Map → ℕ → Option ℕ → Tree
@@ -17,12 +17,12 @@ byte_tree trees image address (Some t) = tree_of trees t
 byte_tree trees image address None = Const (byte_at image address)
 
 -- the terms that a state stands for
-abbrev pub terms_of : List Tree → Map → State → Terms
+abbrev pub terms_of : List Tree → Map → ReplayState → SymbolicState
 terms_of trees image s =
     record { registers = trees_of trees s.registers; bytes = λ a. byte_tree trees image a (get nat_cmp s.bytes a); place = s.place; cells = s.memory.map; heap = s.memory.heap }
 
 -- the tree of a register
-abbrev pub register_tree : List Tree → State → ℕ → Tree
+abbrev pub register_tree : List Tree → ReplayState → ℕ → Tree
 register_tree trees s r = slice_index_or (trees_of trees s.registers) r (Const 0)
 
 -- a heap that has grown or shrunk from another: it starts there, and its break is where it may be
@@ -37,7 +37,7 @@ pub record IsTermIn (trees : List Tree) (t : ℕ) : Type 0 where
   pub normal : IsNormal (tree_of trees t)
 
 -- the terms of a state belong to the arena, and are normal
-pub record IsState (trees : List Tree) (s : State) : Type 0 where
+pub record IsState (trees : List Tree) (s : ReplayState) : Type 0 where
   pub registers : All (IsTermIn trees) s.registers
   pub count : length s.registers ≡ 32
   pub bytes : (a t : ℕ) → get nat_cmp s.bytes a ≡ Some t → IsTermIn trees t

@@ -19,7 +19,7 @@ ghost use Rattle.sym_replay.specs.States.{terms_of, register_tree, IsTermIn, IsS
 ghost use Rattle.memory_map.specs.Heaps.{start_heap};
 
 use crate::calls::{Reply, reply_to};
-use crate::state::State;
+use crate::state::ReplayState;
 use elf32::Image;
 use memory_laws::{heap_at_start, images_are_loaded};
 use no_memory::NoMemory;
@@ -50,7 +50,7 @@ pub(crate) fn bits(integer: i32) -> u32
     integer.cast_unsigned()
 }
 
-impl State {
+impl ReplayState {
     /// The term of the half word at an address.
     #[tactic(auto, using(crate::proofs::StateLemmas::grown_state, crate::proofs::StateLemmas::grown_terms))]
     fn half(&self, arena: &mut Arena, image: &Image, address: u32) -> Result<Term, NoMemory>

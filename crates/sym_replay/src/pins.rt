@@ -11,11 +11,11 @@ ghost use Rattle.term_model.specs.ByteNumber.{TakesByteNumber};
 ghost use Rattle.memory_map.specs.Cells.{Map, start_map, next_address};
 ghost use Rattle.rv_decode.specs.Rows.{IsWellFormed};
 ghost use Rattle.rv_machine.specs.State.{bits as bits_of};
-ghost use Rattle.replay_law.specs.Forms.{with_conditions, outcome};
+ghost use Rattle.replay_law.specs.Forms.{with_conditions, branch_conditions};
 ghost use Rattle.replay_law.specs.Forms as forms;
 ghost use Rattle.replay_law.specs.Terms.{reg_term};
 ghost use Rattle.replay_law.specs.Terms as definitions;
-ghost use Rattle.replay_law.specs.Follow.{fetched_byte, fetch_conditions, row_conditions, instr_conditions, conditions_of};
+ghost use Rattle.replay_law.specs.Follow.{fetched_byte, fetch_conditions, row_conditions, instr_conditions, event_conditions};
 ghost use Rattle.rv_decode.specs.Table.{decoded};
 ghost use Rattle.path_condition.specs.Listed.{Belong};
 ghost use Rattle.path_condition.specs.Sums.{IsNormalTermOf};
@@ -23,7 +23,7 @@ ghost use Rattle.sym_replay.specs.States.{terms_of, register_tree, IsTermIn, IsS
 ghost use Rattle.sym_replay.specs.Pins.{call_conditions};
 
 use crate::effects::bits;
-use crate::state::State;
+use crate::state::ReplayState;
 use elf32::Image;
 use no_memory::NoMemory;
 use path_condition::Conditions;
@@ -86,7 +86,7 @@ fn add_outcome(
     requires first { IsTermIn arena.old a }
     requires second { IsTermIn arena.old b }
     ensures trees { OnOk result (trees_of arena.new conditions.new
-        ≡ with_conditions (trees_of arena.old conditions.old) (outcome norm cond (tree_of arena.old a) (tree_of arena.old b) taken)) }
+        ≡ with_conditions (trees_of arena.old conditions.old) (branch_conditions norm cond (tree_of arena.old a) (tree_of arena.old b) taken)) }
     ensures listed { Belong arena.new conditions.new }
     ensures keeps { Extends arena.old arena.new }
 {
@@ -105,7 +105,7 @@ fn add_fetched_byte(
     conditions: &mut Conditions,
     arena: &mut Arena,
     image: &Image,
-    state: &State,
+    state: &ReplayState,
     address: u32,
     word: u32,
     k: u8,
@@ -130,7 +130,7 @@ fn add_fetch(
     conditions: &mut Conditions,
     arena: &mut Arena,
     image: &Image,
-    state: &State,
+    state: &ReplayState,
     address: u32,
     word: u32,
 ) -> Result<(), NoMemory>
@@ -154,7 +154,7 @@ fn add_fetch(
 fn add_register(
     conditions: &mut Conditions,
     arena: &mut Arena,
-    state: &State,
+    state: &ReplayState,
     register: u8,
     value: u32,
 ) -> Result<(), NoMemory>
@@ -175,7 +175,7 @@ fn add_register(
 fn add_call(
     conditions: &mut Conditions,
     arena: &mut Arena,
-    state: &State,
+    state: &ReplayState,
     call: [u32; 4],
 ) -> Result<(), NoMemory>
     requires listed { Belong arena.old conditions.old }
@@ -207,7 +207,7 @@ fn add_branch(
     requires first { IsTermIn arena.old a }
     requires second { IsTermIn arena.old b }
     ensures trees { OnOk result (trees_of arena.new conditions.new
-        ≡ with_conditions (trees_of arena.old conditions.old) (if target == next then [] else outcome norm cond (tree_of arena.old a) (tree_of arena.old b) (shown == target))) }
+        ≡ with_conditions (trees_of arena.old conditions.old) (if target == next then [] else branch_conditions norm cond (tree_of arena.old a) (tree_of arena.old b) (shown == target))) }
     ensures listed { Belong arena.new conditions.new }
     ensures keeps { Extends arena.old arena.new }
 {
@@ -221,7 +221,7 @@ fn add_branch(
 fn add_address(
     conditions: &mut Conditions,
     arena: &mut Arena,
-    state: &State,
+    state: &ReplayState,
     register: u8,
     immediate: u32,
     address: u32,
@@ -242,7 +242,7 @@ fn add_address(
 fn add_jump(
     conditions: &mut Conditions,
     arena: &mut Arena,
-    state: &State,
+    state: &ReplayState,
     register: u8,
     immediate: u32,
     target: u32,
@@ -264,7 +264,7 @@ fn add_jump(
 fn add_row(
     conditions: &mut Conditions,
     arena: &mut Arena,
-    state: &State,
+    state: &ReplayState,
     event: &Event,
     shown: u32,
     instr: Instr,
@@ -323,7 +323,7 @@ fn add_word(
     conditions: &mut Conditions,
     arena: &mut Arena,
     image: &Image,
-    state: &State,
+    state: &ReplayState,
     event: &Event,
     shown: u32,
 ) -> Result<(), NoMemory>
@@ -343,19 +343,19 @@ fn add_word(
 
 /// Adds what an event asks, by what is shown after it: the program counter of the next event, or the value of the trap that
 /// ended the run.
-#[tactic(auto, unfolding(replay_law::specs::Follow::conditions_of, replay_law::specs::Forms::with_conditions))]
+#[tactic(auto, unfolding(replay_law::specs::Follow::event_conditions, replay_law::specs::Forms::with_conditions))]
 pub(crate) fn add_event(
     conditions: &mut Conditions,
     arena: &mut Arena,
     image: &Image,
-    state: &State,
+    state: &ReplayState,
     event: &Event,
     shown: u32,
 ) -> Result<(), NoMemory>
     requires listed { Belong arena.old conditions.old }
     requires state { IsState arena.old state.now }
     ensures trees { OnOk result (trees_of arena.new conditions.new
-        ≡ with_conditions (trees_of arena.old conditions.old) (conditions_of norm (terms_of arena.old (start_map image.now.segments) state.now) event.now shown)) }
+        ≡ with_conditions (trees_of arena.old conditions.old) (event_conditions norm (terms_of arena.old (start_map image.now.segments) state.now) event.now shown)) }
     ensures listed { Belong arena.new conditions.new }
     ensures keeps { Extends arena.old arena.new }
 {

@@ -1,6 +1,7 @@
 //! Registers and memory as terms.
 
-ghost use Rattle.std.specs.Prelude.{◌≡◌, ◌<◌, ◌≤◌, ◌+◌, ◌^◌, ◌&&◌, nat_le, nat_lt, if◌then◌else◌, true, ℕ, List, length, Some, None, IfSome, IfNone, IsSome, IfOk, OnOk};
+ghost use Rattle.std.specs.Prelude.{◌≡◌, ◌<◌, ◌≤◌, ◌+◌, ◌^◌, ◌&&◌, nat_le, nat_lt, if◌then◌else◌, true, ℕ, List};
+ghost use Rattle.std.specs.Prelude.{length, Some, None, IfSome, IfNone, IsSome, IfOk, OnOk};
 ghost use Rattle.term_model.specs.Tree.{Tree, Const};
 ghost use Rattle.term_model.specs.declared.Op.TheVariants.{Alu};
 ghost use Rattle.rv_word.specs.declared.AluOp.TheVariants.{Add};
@@ -28,16 +29,20 @@ use term_arena::{Arena, Op, Term};
 /// Registers and memory as terms over the input, how many bytes of the input have been read, and a memory whose addresses
 /// and rights are those of the run. Where there is no term for a byte it is as at the start of the program.
 #[derive(Drop)]
-pub(crate) struct State {
+pub(crate) struct ReplayState {
     pub(crate) registers: [Term; 32],
     pub(crate) bytes: BTreeMap<u32, Term>,
     pub(crate) place: u32,
     pub(crate) memory: Memory,
 }
 
-impl State {
+impl ReplayState {
     /// The state at the start of a program.
-    pub(crate) fn start(alloc: Global, arena: &mut Arena, image: &Image) -> Result<State, NoMemory>
+    pub(crate) fn start(
+        alloc: Global,
+        arena: &mut Arena,
+        image: &Image,
+    ) -> Result<ReplayState, NoMemory>
         ensures state { IfOk result (IsState arena.new) }
         ensures terms { IfOk result (λ s. terms_of arena.new (start_map image.now.segments) s ≡ start_terms image.now.segments) }
         ensures heap { IfOk result (λ s. HasHeapOf s.memory.heap (start_heap image.now.segments)) }
@@ -48,7 +53,7 @@ impl State {
         let stack_pointer = arena.constant(0x7fff_ff00)?;
         let mut registers = [zero; 32];
         registers[2] = stack_pointer;
-        Ok(State {
+        Ok(ReplayState {
             registers,
             bytes: BTreeMap::new(alloc),
             place: 0,

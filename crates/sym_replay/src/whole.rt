@@ -12,7 +12,7 @@ ghost use Rattle.path_condition.specs.Listed.{Belong};
 ghost use Rattle.trace_conditions.specs.Conditions.{conditions_of};
 
 use crate::pins::add_event;
-use crate::state::State;
+use crate::state::ReplayState;
 use elf32::Image;
 use no_memory::NoMemory;
 use path_condition::Conditions;
@@ -66,7 +66,7 @@ pub fn replay(
 {
     conditions_hold_of_the_class();
     conditions_are_proper();
-    let mut state = State::start(alloc, arena, image)?;
+    let mut state = ReplayState::start(alloc, arena, image)?;
     let mut conditions = Conditions::new(alloc);
     let events = transcript.events.as_slice();
     for i in 0..events.len() {

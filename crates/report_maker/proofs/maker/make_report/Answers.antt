@@ -1,7 +1,7 @@
 use Rattle.std.proofs.Common.{◌≤◌, ◌∙◌, sym, ap, subst, length, map, arith}
 use Rattle.std.specs.Prelude.{All}
 use Rattle.std.proofs.lemmas.Result.{err_from_is_err_and}
-use Rattle.elf32.specs.Loads.{image_of}
+use Rattle.elf32.specs.Loads.{loaded_program}
 use Rattle.input_laws.specs.Inputs.{IsInput}
 use Rattle.byte_sets.specs.ByteSet.{has}
 use Rattle.replay_law.specs.Crash.{IsProgram}
@@ -17,7 +17,7 @@ divide-requires-clause-program c =
 
 pub fill_all-requires-clause-few : goal.fill_all-requires-clause-few
 fill_all-requires-clause-few c =
-    let small : length c.as_slice-groups.result.now ≤ c.args.transcript.now.n = c.groups_make_the_report.ensures.few (image_of c.args.program.now) c.args.transcript.now c.divide.new.arena c.as_slice-groups.result.now
+    let small : length c.as_slice-groups.result.now ≤ c.args.transcript.now.n = c.groups_make_the_report.ensures.few (loaded_program c.args.program.now) c.args.transcript.now c.divide.new.arena c.as_slice-groups.result.now
     (divided_along c.args.image.now c.args.program.now c.args.transcript.now c.divide.new.arena c.in_ok-divided.divided c.as_slice-groups.result.now
     c.requires.entry c.requires.segments c.as_slice-groups.ensures c.in_ok-divided.ensures) in
     let few : c.args.transcript.now.n ≤ 65536 = c.requires.few in
@@ -27,7 +27,7 @@ pub fill_all-requires-clause-open : goal.fill_all-requires-clause-open
 fill_all-requires-clause-open c =
     let few : c.args.transcript.now.n ≤ 65536 = c.requires.few in
     subst (λ k. All (IsOpen c.divide.new.arena k) c.as_slice-groups.result.now) (sym (ap length c.as_slice.ensures ∙ c.in_ok-mask.ensures.input.long))
-    (c.groups_make_the_report.ensures.open (image_of c.args.program.now) c.requires.traced.0 c.requires.traced.1 c.args.transcript.now c.divide.new.arena c.as_slice-groups.result.now (image_gives_program c.args.image.now c.args.program.now (are_bytes c.args.program.now c.type_inv.program) c.requires.entry) c.requires.traced.2
+    (c.groups_make_the_report.ensures.open (loaded_program c.args.program.now) c.requires.traced.0 c.requires.traced.1 c.args.transcript.now c.divide.new.arena c.as_slice-groups.result.now (image_gives_program c.args.image.now c.args.program.now (are_bytes c.args.program.now c.type_inv.program) c.requires.entry) c.requires.traced.2
     (divided_along c.args.image.now c.args.program.now c.args.transcript.now c.divide.new.arena c.in_ok-divided.divided c.as_slice-groups.result.now
     c.requires.entry c.requires.segments c.as_slice-groups.ensures c.in_ok-divided.ensures) (omega arith))
 
@@ -39,8 +39,8 @@ fill_all-requires-clause-apart c =
 pub returns-in_err-filled-clause-spent : goal.returns-in_err-filled-clause-spent
 returns-in_err-filled-clause-spent c = λ first width is.
     let p = err_from_is_err_and c.from_residual-in_err-filled.result c.from_residual-in_err-filled.ensures.1 in
-    first_is_named (image_of c.args.program.now) c.args.seed c.args.transcript.now c.divide.new.arena c.as_slice-groups.result.now c.as_slice.result.now (c.as_slice.ensures ∙ c.in_ok-mask.ensures.bytes) c.args.budget c.in_err-filled.field-0.0
-    (c.groups_make_the_report.ensures.spent (image_of c.args.program.now) c.args.seed c.args.transcript.now c.divide.new.arena c.as_slice-groups.result.now c.args.budget
+    first_is_named (loaded_program c.args.program.now) c.args.seed c.args.transcript.now c.divide.new.arena c.as_slice-groups.result.now c.as_slice.result.now (c.as_slice.ensures ∙ c.in_ok-mask.ensures.bytes) c.args.budget c.in_err-filled.field-0.0
+    (c.groups_make_the_report.ensures.spent (loaded_program c.args.program.now) c.args.seed c.args.transcript.now c.divide.new.arena c.as_slice-groups.result.now c.args.budget
     (divided_along c.args.image.now c.args.program.now c.args.transcript.now c.divide.new.arena c.in_ok-divided.divided c.as_slice-groups.result.now
     c.requires.entry c.requires.segments c.as_slice-groups.ensures c.in_ok-divided.ensures)) c.in_err-filled.ensures.spent first width
     (sym p.2 ∙ named_by_error c.from_residual-in_err-filled.result p.0 first width p.1 is)
@@ -50,29 +50,29 @@ report_with-report-requires-clause-few c =
     omega (arith, c.in_ok-filled.ensures.input.long, ap length c.as_slice.ensures, c.in_ok-mask.ensures.input.long, c.requires.few)
 
 pub report_with-report-requires-clause-some : goal.report_with-report-requires-clause-some
-report_with-report-requires-clause-some c = crash_has_events (image_of c.args.program.now) c.requires.traced.0 c.requires.traced.1 c.args.transcript.now c.requires.traced.2
+report_with-report-requires-clause-some c = crash_has_events (loaded_program c.args.program.now) c.requires.traced.0 c.requires.traced.1 c.args.transcript.now c.requires.traced.2
 
 pub report_with-report-requires-clause-trapped : goal.report_with-report-requires-clause-trapped
 report_with-report-requires-clause-trapped c = c.requires.traced.2.trapped
 
 pub report_with-report-requires-clause-choice : goal.report_with-report-requires-clause-choice
 report_with-report-requires-clause-choice c =
-    choice_along (image_of c.args.program.now) c.args.seed c.requires.traced.0 c.args.transcript.now c.in_ok-filled.filled.input.items (map has c.in_ok-filled.filled.sets.items)
-    (c.groups_make_the_report.ensures.input (image_of c.args.program.now) c.args.seed c.requires.traced.0 c.requires.traced.1 c.args.transcript.now c.divide.new.arena c.as_slice-groups.result.now c.in_ok-filled.filled.input.items (map has c.in_ok-filled.filled.sets.items) (image_gives_program c.args.image.now c.args.program.now (are_bytes c.args.program.now c.type_inv.program) c.requires.entry) c.requires.traced.2
+    choice_along (loaded_program c.args.program.now) c.args.seed c.requires.traced.0 c.args.transcript.now c.in_ok-filled.filled.input.items (map has c.in_ok-filled.filled.sets.items)
+    (c.groups_make_the_report.ensures.input (loaded_program c.args.program.now) c.args.seed c.requires.traced.0 c.requires.traced.1 c.args.transcript.now c.divide.new.arena c.as_slice-groups.result.now c.in_ok-filled.filled.input.items (map has c.in_ok-filled.filled.sets.items) (image_gives_program c.args.image.now c.args.program.now (are_bytes c.args.program.now c.type_inv.program) c.requires.entry) c.requires.traced.2
     (divided_along c.args.image.now c.args.program.now c.args.transcript.now c.divide.new.arena c.in_ok-divided.divided c.as_slice-groups.result.now
     c.requires.entry c.requires.segments c.as_slice-groups.ensures c.in_ok-divided.ensures)
     (subst (λ k. IsInput k c.in_ok-filled.filled.input.items) (ap length c.as_slice.ensures ∙ c.in_ok-mask.ensures.input.long) c.in_ok-filled.ensures.input)
-    (filled_by_mask (image_of c.args.program.now) c.args.seed c.args.transcript.now c.divide.new.arena c.as_slice-groups.result.now c.as_slice.result.now (c.as_slice.ensures ∙ c.in_ok-mask.ensures.bytes) c.in_ok-filled.filled.input.items (map has c.in_ok-filled.filled.sets.items) c.in_ok-filled.ensures.filled))
-    (c.groups_make_the_report.ensures.sets (image_of c.args.program.now) c.args.seed c.requires.traced.0 c.requires.traced.1 c.args.transcript.now c.divide.new.arena c.as_slice-groups.result.now c.in_ok-filled.filled.input.items (map has c.in_ok-filled.filled.sets.items) (image_gives_program c.args.image.now c.args.program.now (are_bytes c.args.program.now c.type_inv.program) c.requires.entry) c.requires.traced.2
+    (filled_by_mask (loaded_program c.args.program.now) c.args.seed c.args.transcript.now c.divide.new.arena c.as_slice-groups.result.now c.as_slice.result.now (c.as_slice.ensures ∙ c.in_ok-mask.ensures.bytes) c.in_ok-filled.filled.input.items (map has c.in_ok-filled.filled.sets.items) c.in_ok-filled.ensures.filled))
+    (c.groups_make_the_report.ensures.sets (loaded_program c.args.program.now) c.args.seed c.requires.traced.0 c.requires.traced.1 c.args.transcript.now c.divide.new.arena c.as_slice-groups.result.now c.in_ok-filled.filled.input.items (map has c.in_ok-filled.filled.sets.items) (image_gives_program c.args.image.now c.args.program.now (are_bytes c.args.program.now c.type_inv.program) c.requires.entry) c.requires.traced.2
     (divided_along c.args.image.now c.args.program.now c.args.transcript.now c.divide.new.arena c.in_ok-divided.divided c.as_slice-groups.result.now
     c.requires.entry c.requires.segments c.as_slice-groups.ensures c.in_ok-divided.ensures)
     (subst (λ k. IsInput k c.in_ok-filled.filled.input.items) (ap length c.as_slice.ensures ∙ c.in_ok-mask.ensures.input.long) c.in_ok-filled.ensures.input)
-    (filled_by_mask (image_of c.args.program.now) c.args.seed c.args.transcript.now c.divide.new.arena c.as_slice-groups.result.now c.as_slice.result.now (c.as_slice.ensures ∙ c.in_ok-mask.ensures.bytes) c.in_ok-filled.filled.input.items (map has c.in_ok-filled.filled.sets.items) c.in_ok-filled.ensures.filled))
-    (c.choices_have_the_trace.ensures.own (image_of c.args.program.now) c.args.seed c.requires.traced.0 c.requires.traced.1 c.args.transcript.now (image_gives_program c.args.image.now c.args.program.now (are_bytes c.args.program.now c.type_inv.program) c.requires.entry) c.requires.traced.2)
+    (filled_by_mask (loaded_program c.args.program.now) c.args.seed c.args.transcript.now c.divide.new.arena c.as_slice-groups.result.now c.as_slice.result.now (c.as_slice.ensures ∙ c.in_ok-mask.ensures.bytes) c.in_ok-filled.filled.input.items (map has c.in_ok-filled.filled.sets.items) c.in_ok-filled.ensures.filled))
+    (c.choices_have_the_trace.ensures.own (loaded_program c.args.program.now) c.args.seed c.requires.traced.0 c.requires.traced.1 c.args.transcript.now (image_gives_program c.args.image.now c.args.program.now (are_bytes c.args.program.now c.type_inv.program) c.requires.entry) c.requires.traced.2)
 
 pub overflow_cast-result : goal.overflow_cast-result
 overflow_cast-result c =
-    let small : length c.as_slice-groups.result.now ≤ c.args.transcript.now.n = c.groups_make_the_report.ensures.few (image_of c.args.program.now) c.args.transcript.now c.divide.new.arena c.as_slice-groups.result.now
+    let small : length c.as_slice-groups.result.now ≤ c.args.transcript.now.n = c.groups_make_the_report.ensures.few (loaded_program c.args.program.now) c.args.transcript.now c.divide.new.arena c.as_slice-groups.result.now
     (divided_along c.args.image.now c.args.program.now c.args.transcript.now c.divide.new.arena c.in_ok-divided.divided c.as_slice-groups.result.now
     c.requires.entry c.requires.segments c.as_slice-groups.ensures c.in_ok-divided.ensures) in
     let few : c.args.transcript.now.n ≤ 65536 = c.requires.few in
@@ -81,32 +81,32 @@ overflow_cast-result c =
 pub returns-clause-report : goal.returns-clause-report
 returns-clause-report c = λ limit x trap traced ended.
     report_is c.args.program.now c.args.seed limit c.args.transcript.now trap _ c.in_ok-filled.filled.input.items (map has c.in_ok-filled.filled.sets.items) (c.report_with-report.ensures.says trap ended)
-    (c.groups_make_the_report.ensures.input (image_of c.args.program.now) c.args.seed limit x c.args.transcript.now c.divide.new.arena c.as_slice-groups.result.now c.in_ok-filled.filled.input.items (map has c.in_ok-filled.filled.sets.items) (image_gives_program c.args.image.now c.args.program.now (are_bytes c.args.program.now c.type_inv.program) c.requires.entry) traced
+    (c.groups_make_the_report.ensures.input (loaded_program c.args.program.now) c.args.seed limit x c.args.transcript.now c.divide.new.arena c.as_slice-groups.result.now c.in_ok-filled.filled.input.items (map has c.in_ok-filled.filled.sets.items) (image_gives_program c.args.image.now c.args.program.now (are_bytes c.args.program.now c.type_inv.program) c.requires.entry) traced
     (divided_along c.args.image.now c.args.program.now c.args.transcript.now c.divide.new.arena c.in_ok-divided.divided c.as_slice-groups.result.now
     c.requires.entry c.requires.segments c.as_slice-groups.ensures c.in_ok-divided.ensures)
     (subst (λ k. IsInput k c.in_ok-filled.filled.input.items) (ap length c.as_slice.ensures ∙ c.in_ok-mask.ensures.input.long) c.in_ok-filled.ensures.input)
-    (filled_by_mask (image_of c.args.program.now) c.args.seed c.args.transcript.now c.divide.new.arena c.as_slice-groups.result.now c.as_slice.result.now (c.as_slice.ensures ∙ c.in_ok-mask.ensures.bytes) c.in_ok-filled.filled.input.items (map has c.in_ok-filled.filled.sets.items) c.in_ok-filled.ensures.filled))
-    (c.groups_make_the_report.ensures.sets (image_of c.args.program.now) c.args.seed limit x c.args.transcript.now c.divide.new.arena c.as_slice-groups.result.now c.in_ok-filled.filled.input.items (map has c.in_ok-filled.filled.sets.items) (image_gives_program c.args.image.now c.args.program.now (are_bytes c.args.program.now c.type_inv.program) c.requires.entry) traced
+    (filled_by_mask (loaded_program c.args.program.now) c.args.seed c.args.transcript.now c.divide.new.arena c.as_slice-groups.result.now c.as_slice.result.now (c.as_slice.ensures ∙ c.in_ok-mask.ensures.bytes) c.in_ok-filled.filled.input.items (map has c.in_ok-filled.filled.sets.items) c.in_ok-filled.ensures.filled))
+    (c.groups_make_the_report.ensures.sets (loaded_program c.args.program.now) c.args.seed limit x c.args.transcript.now c.divide.new.arena c.as_slice-groups.result.now c.in_ok-filled.filled.input.items (map has c.in_ok-filled.filled.sets.items) (image_gives_program c.args.image.now c.args.program.now (are_bytes c.args.program.now c.type_inv.program) c.requires.entry) traced
     (divided_along c.args.image.now c.args.program.now c.args.transcript.now c.divide.new.arena c.in_ok-divided.divided c.as_slice-groups.result.now
     c.requires.entry c.requires.segments c.as_slice-groups.ensures c.in_ok-divided.ensures)
     (subst (λ k. IsInput k c.in_ok-filled.filled.input.items) (ap length c.as_slice.ensures ∙ c.in_ok-mask.ensures.input.long) c.in_ok-filled.ensures.input)
-    (filled_by_mask (image_of c.args.program.now) c.args.seed c.args.transcript.now c.divide.new.arena c.as_slice-groups.result.now c.as_slice.result.now (c.as_slice.ensures ∙ c.in_ok-mask.ensures.bytes) c.in_ok-filled.filled.input.items (map has c.in_ok-filled.filled.sets.items) c.in_ok-filled.ensures.filled))
+    (filled_by_mask (loaded_program c.args.program.now) c.args.seed c.args.transcript.now c.divide.new.arena c.as_slice-groups.result.now c.as_slice.result.now (c.as_slice.ensures ∙ c.in_ok-mask.ensures.bytes) c.in_ok-filled.filled.input.items (map has c.in_ok-filled.filled.sets.items) c.in_ok-filled.ensures.filled))
 
 pub returns-clause-groups : goal.returns-clause-groups
-returns-clause-groups c = c.groups_make_the_report.ensures.number (image_of c.args.program.now) c.args.transcript.now c.divide.new.arena c.as_slice-groups.result.now
+returns-clause-groups c = c.groups_make_the_report.ensures.number (loaded_program c.args.program.now) c.args.transcript.now c.divide.new.arena c.as_slice-groups.result.now
     (divided_along c.args.image.now c.args.program.now c.args.transcript.now c.divide.new.arena c.in_ok-divided.divided c.as_slice-groups.result.now
     c.requires.entry c.requires.segments c.as_slice-groups.ensures c.in_ok-divided.ensures)
 
 pub returns-clause-conflicts : goal.returns-clause-conflicts
 returns-clause-conflicts c =
-    counted_is (image_of c.args.program.now) c.args.seed c.args.transcript.now c.divide.new.arena c.as_slice-groups.result.now c.as_slice.result.now (c.as_slice.ensures ∙ c.in_ok-mask.ensures.bytes) c.in_ok-filled.filled.conflicts
-    (c.groups_make_the_report.ensures.conflicts (image_of c.args.program.now) c.args.seed c.args.transcript.now c.divide.new.arena c.as_slice-groups.result.now
+    counted_is (loaded_program c.args.program.now) c.args.seed c.args.transcript.now c.divide.new.arena c.as_slice-groups.result.now c.as_slice.result.now (c.as_slice.ensures ∙ c.in_ok-mask.ensures.bytes) c.in_ok-filled.filled.conflicts
+    (c.groups_make_the_report.ensures.conflicts (loaded_program c.args.program.now) c.args.seed c.args.transcript.now c.divide.new.arena c.as_slice-groups.result.now
     (divided_along c.args.image.now c.args.program.now c.args.transcript.now c.divide.new.arena c.in_ok-divided.divided c.as_slice-groups.result.now
     c.requires.entry c.requires.segments c.as_slice-groups.ensures c.in_ok-divided.ensures)) c.in_ok-filled.ensures.count
 
 pub returns-clause-unspent : goal.returns-clause-unspent
 returns-clause-unspent c =
-    none_is_spent (image_of c.args.program.now) c.args.seed c.args.transcript.now c.divide.new.arena c.as_slice-groups.result.now c.as_slice.result.now (c.as_slice.ensures ∙ c.in_ok-mask.ensures.bytes) c.args.budget
-    (c.groups_make_the_report.ensures.spent (image_of c.args.program.now) c.args.seed c.args.transcript.now c.divide.new.arena c.as_slice-groups.result.now c.args.budget
+    none_is_spent (loaded_program c.args.program.now) c.args.seed c.args.transcript.now c.divide.new.arena c.as_slice-groups.result.now c.as_slice.result.now (c.as_slice.ensures ∙ c.in_ok-mask.ensures.bytes) c.args.budget
+    (c.groups_make_the_report.ensures.spent (loaded_program c.args.program.now) c.args.seed c.args.transcript.now c.divide.new.arena c.as_slice-groups.result.now c.args.budget
     (divided_along c.args.image.now c.args.program.now c.args.transcript.now c.divide.new.arena c.in_ok-divided.divided c.as_slice-groups.result.now
     c.requires.entry c.requires.segments c.as_slice-groups.ensures c.in_ok-divided.ensures)) c.in_ok-filled.ensures.unspent

@@ -1,5 +1,5 @@
 use Rattle.std.proofs.Common.{◌+◌, ◌-◌, sym, ap, ◌∙◌, arith, append-nil}
-use Rattle.rv_machine.specs.Trace.{trace}
+use Rattle.rv_machine.specs.Trace.{trace_from}
 use Rattle.rv_machine.proofs.Traces.{behind, behind_more, behind_end, trace_zero}
 use Rattle.rv_machine.proofs.trace.transcribe.Goals as goal
 
@@ -11,7 +11,7 @@ loop-i-preserved c =
     record {
       on = o;
       place = c.step-stepped.ensures.place;
-      so_far = t ∙ ap (λ x. behind x (trace (c.args.limit - (c.loop-i._i + 1)) c.args.input.now c.step-stepped.new.self.state)) (sym c.in_ok-push.ensures.items);
+      so_far = t ∙ ap (λ x. behind x (trace_from (c.args.limit - (c.loop-i._i + 1)) c.args.input.now c.step-stepped.new.self.state)) (sym c.in_ok-push.ensures.items);
     }
 
 pub returns-in-Some-clause-events : goal.returns-in-Some-clause-events

@@ -9,10 +9,10 @@ use Rattle.memory_map.specs.Cells.{start_map}
 use Rattle.rv_machine.specs.Class.{in_class}
 use Rattle.replay_law.specs.Crash.{AreProper}
 use Rattle.replay_law.specs.Forms.{with_conditions}
-use Rattle.replay_law.specs.Terms.{Terms, terms_after}
+use Rattle.replay_law.specs.Terms.{SymbolicState, terms_after}
 use Rattle.memory_map.specs.Heaps.{start_heap}
 use Rattle.sym_replay.proofs.HeapLemmas.{event_heap}
-use Rattle.replay_law.specs.Follow.{conditions_of, shown_next}
+use Rattle.replay_law.specs.Follow.{event_conditions, shown_next}
 use Rattle.trace_conditions.specs.Conditions as whole
 use Rattle.path_condition.proofs.ListLemmas.{grown_trees, grown_belong}
 use Rattle.sym_replay.specs.States.{terms_of, HasHeapOf}
@@ -52,12 +52,12 @@ loop-i-preserved c =
     let item : slice_get run.events c.loop-i.i ≡ Some e = sym (ap (λ es. slice_get es c.loop-i.i) c.as_slice-events.ensures) ∙ c.event_at-event.ensures in
     let shown : c.shown_after-shown.result ≡ shown_next (drop (c.loop-i.i + 1) run.events) run.end = c.shown_after-shown.ensures ∙ ap (λ es. shown_next (drop (c.loop-i.i + 1) es) run.end) c.as_slice-events.ensures in
     let listed = trees_of c.loop-i.arena c.loop-i.conditions in
-    let new = later ∙ c.in_ok-add_event.ensures.trees ∙ ap (λ v. with_conditions listed (conditions_of norm s e v)) shown in
+    let new = later ∙ c.in_ok-add_event.ensures.trees ∙ ap (λ v. with_conditions listed (event_conditions norm s e v)) shown in
     let after = c.in_ok-follow_event.ensures.terms ∙ (λ i. terms_after norm run.n (grown i) e) in (
       grown_belong c.add_event.new.arena c.follow_event.new.arena keeps c.add_event.new.conditions c.in_ok-add_event.ensures.listed,
       c.in_ok-follow_event.ensures.state,
       c.in_ok-follow_event.ensures.place,
-      subst (λ (t : Terms). HasHeapOf t.heap (start_heap c.args.image.now.segments)) (sym after) (event_heap run.n s e (start_heap c.args.image.now.segments) c.loop-i.invariant.3),
+      subst (λ (t : SymbolicState). HasHeapOf t.heap (start_heap c.args.image.now.segments)) (sym after) (event_heap run.n s e (start_heap c.args.image.now.segments) c.loop-i.invariant.3),
       further c.args.arena.now c.loop-i.arena c.follow_event.new.arena c.loop-i.invariant.4 (further c.loop-i.arena c.add_event.new.arena c.follow_event.new.arena c.in_ok-add_event.ensures.keeps keeps),
       next_event run.n run.events run.end (whole.conditions_of program run) c.loop-i.i e item listed (trees_of c.follow_event.new.arena c.add_event.new.conditions) s (terms_of c.follow_event.new.arena image c.follow_event.new.self) c.loop-i.invariant.5 new after,
     )

@@ -1,0 +1,14 @@
+use Rattle.std.proofs.Common.{◌≡◌, ℕ, ◌∙◌, sym}
+use Rattle.sym_replay.proofs.HeapLemmas.{one_cleared, none_left}
+use Rattle.sym_replay.proofs.state.ReplayState.clear.Goals as goal
+
+pub loop-address-preserved : goal.loop-address-preserved
+loop-address-preserved c = (
+  λ q. one_cleared c.loop-address.self.bytes c.remove.new.self c.args.from c.args.to c.in-Some.address c.in-Some.ensures.some.0 c.in-Some.ensures.some.1 c.remove.ensures.updates q ∙ c.loop-address.invariant.0 q,
+  c.loop-address.invariant.1,
+  c.loop-address.invariant.2,
+  c.loop-address.invariant.3,
+)
+
+pub returns-clause-bytes : goal.returns-clause-bytes
+returns-clause-bytes c q = none_left c.loop-address.self.bytes c.args.from c.args.to q c.in_default.ensures.none ∙ c.loop-address.invariant.0 q

@@ -1,0 +1,14 @@
+use Rattle.std.proofs.Common.{◌∙◌}
+use Rattle.replay_law.specs.Terms.{put_reg}
+use Rattle.sym_replay.proofs.StateLemmas.{grown_state, grown_terms}
+use Rattle.sym_replay.proofs.state.ReplayState.put_made.Goals as goal
+
+pub returns-clause-state : goal.returns-clause-state
+returns-clause-state c =
+    c.put.ensures.state c.make.new.arena (grown_state c.args.arena.now c.make.new.arena c.args.self.now c.in_ok-t.ensures.keeps c.requires.state)
+    (record { belongs = c.in_ok-t.ensures.below; normal = c.in_ok-t.ensures.normal })
+
+pub returns-clause-terms : goal.returns-clause-terms
+returns-clause-terms c image =
+    let grown = grown_terms c.args.arena.now c.make.new.arena c.args.self.now image c.in_ok-t.ensures.keeps c.requires.state in
+    c.put.ensures.terms c.make.new.arena image ∙ (λ i. put_reg c.args.register (c.in_ok-t.ensures.tree i) (grown i))

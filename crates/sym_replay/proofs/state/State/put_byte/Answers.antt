@@ -1,5 +1,0 @@
-use Rattle.sym_replay.proofs.StateLemmas.{put_state}
-use Rattle.sym_replay.proofs.state.State.put_byte.Goals as goal
-
-pub returns-clause-state : goal.returns-clause-state
-returns-clause-state c trees h t = put_state trees c.args.self.now c.insert.new.self c.args.address c.args.t h t c.in_ok-insert.ensures.updates
