@@ -72,8 +72,8 @@ impl Memory {
         }
     }
 
-    /// The byte at an address, and 0 where there is none.
-    fn byte(&self, address: u32) -> u8
+    /// The byte at an address, whatever its rights are, and 0 where there is none.
+    pub fn byte(&self, address: u32) -> u8
         ensures { result ≡ byte_at self.now.map address }
     {
         match self.region(address) {

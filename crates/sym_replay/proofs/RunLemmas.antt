@@ -7,7 +7,6 @@ use Rattle.rv_event.specs.declared.event.End.{End}
 use Rattle.rv_event.specs.declared.transcript.Transcript.{Transcript}
 use Rattle.term_model.specs.Tree.{Tree}
 use Rattle.normal_form.specs.Norm.{norm}
-use Rattle.memory_map.specs.Cells.{Map, start_map}
 use Rattle.replay_law.specs.Forms.{with_conditions}
 use Rattle.replay_law.specs.Terms.{SymbolicState, terms_after, start_terms}
 use Rattle.replay_law.specs.Follow.{event_conditions, shown_next, follow, conditions}

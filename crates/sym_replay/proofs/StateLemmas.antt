@@ -6,7 +6,7 @@ use Rattle.std.proofs.lemmas.List.{map-set}
 use Rattle.term_model.specs.Tree.{Tree, Const, Input}
 use Rattle.term_arena.specs.Trees.{tree_of, Extends, trees_of}
 use Rattle.normal_form.specs.Normal.{IsNormal}
-use Rattle.memory_map.specs.Cells.{Map, next_address}
+use Rattle.memory_map.specs.Cells.{next_address}
 use Rattle.replay_law.specs.Terms.{SymbolicState, with_tree, put_trees, input_terms}
 use Rattle.path_condition.specs.Sums.{IsNormalTermOf}
 use Rattle.path_condition.proofs.ListLemmas.{grown_trees}
@@ -22,8 +22,8 @@ pub grown_state : (old new : List Tree) (s : ReplayState) → Extends old new �
 grown_state old new s g h = record { registers = λ k d lt. grown_term old new g _ (h.registers k d lt); count = h.count; bytes = λ a t e. grown_term old new g t (h.bytes a t e) }
 
 -- it stands for the same terms
-pub grown_terms : (old new : List Tree) (s : ReplayState) (image : Map) → Extends old new → IsState old s → terms_of new image s ≡ terms_of old image s
-grown_terms old new s image g h = (λ i. record {
+pub grown_terms : (old new : List Tree) (s : ReplayState) → Extends old new → IsState old s → terms_of new s ≡ terms_of old s
+grown_terms old new s g h = (λ i. record {
   registers = grown_trees old new g s.registers (λ k d lt. (h.registers k d lt).belongs) i;
   bytes = λ a. same_byte a (get nat_cmp s.bytes a) refl i;
   place = s.place;
@@ -31,7 +31,7 @@ grown_terms old new s image g h = (λ i. record {
   heap = s.memory.heap;
 })
   where
-    same_byte : (a : ℕ) (o : Option ℕ) → get nat_cmp s.bytes a ≡ o → byte_tree new image a o ≡ byte_tree old image a o
+    same_byte : (a : ℕ) (o : Option ℕ) → get nat_cmp s.bytes a ≡ o → byte_tree new s.memory.map a o ≡ byte_tree old s.memory.map a o
     same_byte a None e = refl
     same_byte a (Some t) e = g.same t (h.bytes a t e).belongs
 
@@ -69,9 +69,9 @@ pub constant_term : (trees : List Tree) (t v : ℕ) → t < length trees → tre
 constant_term trees t v lt e word = record { belongs = lt; normal = subst IsNormal (sym e) word }
 
 -- a term that was put at an address
-pub found_term : (trees : List Tree) (image : Map) (s : ReplayState) (a t : ℕ) → IsState trees s → (o : Option ℕ) → Some t ≡ o → get nat_cmp s.bytes a ≡ o → IsNormalTermOf trees (byte_tree trees image a o) t
-found_term trees image s a t h o e f =
-    subst (λ (p : Option ℕ). IsNormalTermOf trees (byte_tree trees image a p) t) e
+pub found_term : (trees : List Tree) (s : ReplayState) (a t : ℕ) → IsState trees s → (o : Option ℕ) → Some t ≡ o → get nat_cmp s.bytes a ≡ o → IsNormalTermOf trees (byte_tree trees s.memory.map a o) t
+found_term trees s a t h o e f =
+    subst (λ (p : Option ℕ). IsNormalTermOf trees (byte_tree trees s.memory.map a p) t) e
     (let here = h.bytes a t (f ∙ sym e) in record { belongs = here.belongs; is = refl; normal = here.normal })
 
 -- terms with others in memory

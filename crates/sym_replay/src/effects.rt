@@ -7,7 +7,7 @@ ghost use Rattle.term_model.specs.Tree.{Tree, Const};
 ghost use Rattle.term_arena.specs.Trees.{tree_of, Extends};
 ghost use Rattle.normal_form.specs.Norm.{norm};
 ghost use Rattle.normal_form.specs.Normal.{IsNormal};
-ghost use Rattle.memory_map.specs.Cells.{Map, start_map, next_address};
+ghost use Rattle.memory_map.specs.Cells.{next_address};
 ghost use Rattle.rv_decode.specs.Rows.{IsWellFormed};
 ghost use Rattle.rv_machine.specs.State.{bits as bits_of};
 ghost use Rattle.replay_law.specs.Terms.{reg_term, put_reg, put_trees, with_tree};
@@ -15,13 +15,10 @@ ghost use Rattle.replay_law.specs.Terms as definitions;
 ghost use Rattle.replay_law.specs.Forms.{byte_term as byte_of_term};
 ghost use Rattle.path_condition.specs.Sums.{IsNormalTermOf};
 ghost use Rattle.sym_replay.specs.Replies.{reply_of, moved, IsOfHeap};
-ghost use Rattle.sym_replay.specs.States.{terms_of, register_tree, IsTermIn, IsState, HasHeapOf};
-ghost use Rattle.memory_map.specs.Heaps.{start_heap};
+ghost use Rattle.sym_replay.specs.States.{terms_of, register_tree, IsTermIn, IsState};
 
 use crate::calls::{Reply, reply_to};
 use crate::state::ReplayState;
-use elf32::Image;
-use memory_laws::{heap_at_start, images_are_loaded};
 use no_memory::NoMemory;
 use path_condition::byte_term;
 use rv_decode::{Instr, Width, decode};
@@ -53,13 +50,13 @@ pub(crate) fn bits(integer: i32) -> u32
 impl ReplayState {
     /// The term of the half word at an address.
     #[tactic(auto, using(crate::proofs::StateLemmas::grown_state, crate::proofs::StateLemmas::grown_terms))]
-    fn half(&self, arena: &mut Arena, image: &Image, address: u32) -> Result<Term, NoMemory>
+    fn half(&self, arena: &mut Arena, address: u32) -> Result<Term, NoMemory>
         requires { IsState arena.old self.now }
-        ensures term { IfOk result (IsNormalTermOf arena.new (definitions.half_term norm (terms_of arena.old (start_map image.now.segments) self.now).bytes address)) }
+        ensures term { IfOk result (IsNormalTermOf arena.new (definitions.half_term norm (terms_of arena.old self.now).bytes address)) }
         ensures keeps { Extends arena.old arena.new }
     {
-        let low = self.byte(arena, image, address)?;
-        let high = self.byte(arena, image, address.wrapping_add(1))?;
+        let low = self.byte(arena, address)?;
+        let high = self.byte(arena, address.wrapping_add(1))?;
         make(arena, Op::Pair, low, high)
     }
 
@@ -68,28 +65,27 @@ impl ReplayState {
     pub(crate) fn loaded(
         &self,
         arena: &mut Arena,
-        image: &Image,
         width: Width,
         address: u32,
     ) -> Result<Term, NoMemory>
         requires { IsState arena.old self.now }
-        ensures term { IfOk result (IsNormalTermOf arena.new (definitions.loaded_term norm (terms_of arena.old (start_map image.now.segments) self.now).bytes width address)) }
+        ensures term { IfOk result (IsNormalTermOf arena.new (definitions.loaded_term norm (terms_of arena.old self.now).bytes width address)) }
         ensures keeps { Extends arena.old arena.new }
     {
         match width {
             Width::B => {
-                let byte = self.byte(arena, image, address)?;
+                let byte = self.byte(arena, address)?;
                 extended(arena, byte, 24)
             }
-            Width::Bu => self.byte(arena, image, address),
+            Width::Bu => self.byte(arena, address),
             Width::H => {
-                let half = self.half(arena, image, address)?;
+                let half = self.half(arena, address)?;
                 extended(arena, half, 16)
             }
-            Width::Hu => self.half(arena, image, address),
+            Width::Hu => self.half(arena, address),
             Width::W => {
-                let low = self.half(arena, image, address)?;
-                let high = self.half(arena, image, address.wrapping_add(2))?;
+                let low = self.half(arena, address)?;
+                let high = self.half(arena, address.wrapping_add(2))?;
                 make(arena, Op::Half, low, high)
             }
         }
@@ -108,9 +104,8 @@ impl ReplayState {
         requires term { IsTermIn arena.old t }
         requires byte { k < 4 }
         ensures state { OnOk result (IsState arena.new self.new) }
-        ensures terms { (image : Map) →
-            OnOk result (terms_of arena.new image self.new
-            ≡ record (terms_of arena.old image self.old) { bytes = with_tree (terms_of arena.old image self.old).bytes address (byte_of_term norm k (tree_of arena.old t)) }) }
+        ensures terms { OnOk result (terms_of arena.new self.new
+            ≡ record (terms_of arena.old self.old) { bytes = with_tree (terms_of arena.old self.old).bytes address (byte_of_term norm k (tree_of arena.old t)) }) }
         ensures place { self.new.place ≡ self.old.place }
         ensures keeps { Extends arena.old arena.new }
     {
@@ -124,9 +119,8 @@ impl ReplayState {
         requires state { IsState arena.old self.old }
         requires term { IsTermIn arena.old t }
         ensures state { OnOk result (IsState arena.new self.new) }
-        ensures terms { (image : Map) →
-            OnOk result (terms_of arena.new image self.new
-            ≡ record (terms_of arena.old image self.old) { bytes = put_trees (terms_of arena.old image self.old).bytes address (definitions.stored_terms norm Width.H (tree_of arena.old t)) }) }
+        ensures terms { OnOk result (terms_of arena.new self.new
+            ≡ record (terms_of arena.old self.old) { bytes = put_trees (terms_of arena.old self.old).bytes address (definitions.stored_terms norm Width.H (tree_of arena.old t)) }) }
         ensures place { self.new.place ≡ self.old.place }
         ensures keeps { Extends arena.old arena.new }
     {
@@ -140,9 +134,8 @@ impl ReplayState {
         requires state { IsState arena.old self.old }
         requires term { IsTermIn arena.old t }
         ensures state { OnOk result (IsState arena.new self.new) }
-        ensures terms { (image : Map) →
-            OnOk result (terms_of arena.new image self.new
-            ≡ record (terms_of arena.old image self.old) { bytes = put_trees (terms_of arena.old image self.old).bytes address (definitions.stored_terms norm Width.W (tree_of arena.old t)) }) }
+        ensures terms { OnOk result (terms_of arena.new self.new
+            ≡ record (terms_of arena.old self.old) { bytes = put_trees (terms_of arena.old self.old).bytes address (definitions.stored_terms norm Width.W (tree_of arena.old t)) }) }
         ensures place { self.new.place ≡ self.old.place }
         ensures keeps { Extends arena.old arena.new }
     {
@@ -164,9 +157,8 @@ impl ReplayState {
         requires state { IsState arena.old self.old }
         requires term { IsTermIn arena.old t }
         ensures state { OnOk result (IsState arena.new self.new) }
-        ensures terms { (image : Map) →
-            OnOk result (terms_of arena.new image self.new
-            ≡ record (terms_of arena.old image self.old) { bytes = put_trees (terms_of arena.old image self.old).bytes address (definitions.stored_terms norm width (tree_of arena.old t)) }) }
+        ensures terms { OnOk result (terms_of arena.new self.new
+            ≡ record (terms_of arena.old self.old) { bytes = put_trees (terms_of arena.old self.old).bytes address (definitions.stored_terms norm width (tree_of arena.old t)) }) }
         ensures place { self.new.place ≡ self.old.place }
         ensures keeps { Extends arena.old arena.new }
     {
@@ -187,9 +179,8 @@ impl ReplayState {
         requires state { IsState arena.old self.old }
         requires fits { self.old.place + count < 2 ^ 32 }
         ensures state { OnOk result (IsState arena.new self.new) }
-        ensures terms { (image : Map) →
-            OnOk result (terms_of arena.new image self.new
-            ≡ record (terms_of arena.old image self.old) { bytes = put_trees (terms_of arena.old image self.old).bytes address (definitions.input_terms self.old.place count); place = self.old.place + count }) }
+        ensures terms { OnOk result (terms_of arena.new self.new
+            ≡ record (terms_of arena.old self.old) { bytes = put_trees (terms_of arena.old self.old).bytes address (definitions.input_terms self.old.place count); place = self.old.place + count }) }
         ensures place { OnOk result (self.new.place ≡ self.old.place + count) }
         ensures keeps { Extends arena.old arena.new }
     {
@@ -225,9 +216,8 @@ impl ReplayState {
         requires state { IsState arena.old self.old }
         requires register { register < 32 }
         ensures state { OnOk result (IsState arena.new self.new) }
-        ensures terms { (image : Map) →
-            OnOk result (terms_of arena.new image self.new
-            ≡ put_reg register (Const value) (terms_of arena.old image self.old)) }
+        ensures terms { OnOk result (terms_of arena.new self.new
+            ≡ put_reg register (Const value) (terms_of arena.old self.old)) }
         ensures place { self.new.place ≡ self.old.place }
         ensures keeps { Extends arena.old arena.new }
     {
@@ -250,9 +240,8 @@ impl ReplayState {
         requires first { IsTermIn arena.old a }
         requires second { IsTermIn arena.old b }
         ensures state { OnOk result (IsState arena.new self.new) }
-        ensures terms { (image : Map) →
-            OnOk result (terms_of arena.new image self.new
-            ≡ put_reg register (norm (Alu op) (tree_of arena.old a) (tree_of arena.old b)) (terms_of arena.old image self.old)) }
+        ensures terms { OnOk result (terms_of arena.new self.new
+            ≡ put_reg register (norm (Alu op) (tree_of arena.old a) (tree_of arena.old b)) (terms_of arena.old self.old)) }
         ensures place { self.new.place ≡ self.old.place }
         ensures keeps { Extends arena.old arena.new }
     {
@@ -274,9 +263,8 @@ impl ReplayState {
         requires register { register < 32 }
         requires first { first < 32 }
         ensures state { OnOk result (IsState arena.new self.new) }
-        ensures terms { (image : Map) →
-            OnOk result (terms_of arena.new image self.new
-            ≡ put_reg register (norm (Alu op) (register_tree arena.old self.old first) (Const immediate)) (terms_of arena.old image self.old)) }
+        ensures terms { OnOk result (terms_of arena.new self.new
+            ≡ put_reg register (norm (Alu op) (register_tree arena.old self.old first) (Const immediate)) (terms_of arena.old self.old)) }
         ensures place { self.new.place ≡ self.old.place }
         ensures keeps { Extends arena.old arena.new }
     {
@@ -289,7 +277,6 @@ impl ReplayState {
     fn load(
         &mut self,
         arena: &mut Arena,
-        image: &Image,
         width: Width,
         register: u8,
         address: u32,
@@ -297,31 +284,24 @@ impl ReplayState {
         requires state { IsState arena.old self.old }
         requires register { register < 32 }
         ensures state { OnOk result (IsState arena.new self.new) }
-        ensures terms { OnOk result (terms_of arena.new (start_map image.now.segments) self.new
-            ≡ put_reg register (definitions.loaded_term norm (terms_of arena.old (start_map image.now.segments) self.old).bytes width address) (terms_of arena.old (start_map image.now.segments) self.old)) }
+        ensures terms { OnOk result (terms_of arena.new self.new
+            ≡ put_reg register (definitions.loaded_term norm (terms_of arena.old self.old).bytes width address) (terms_of arena.old self.old)) }
         ensures place { self.new.place ≡ self.old.place }
         ensures keeps { Extends arena.old arena.new }
     {
-        let t = self.loaded(arena, image, width, address)?;
+        let t = self.loaded(arena, width, address)?;
         self.put(register, t);
         Ok(())
     }
 
     /// What a call leaves, by its reply.
-    fn answer(
-        &mut self,
-        arena: &mut Arena,
-        image: &Image,
-        event: &Event,
-        reply: Reply,
-    ) -> Result<(), NoMemory>
+    fn answer(&mut self, arena: &mut Arena, event: &Event, reply: Reply) -> Result<(), NoMemory>
         requires state { IsState arena.old self.old }
-        requires heap { HasHeapOf self.old.memory.heap (start_heap image.now.segments) }
         requires reply { IsOfHeap self.old.memory.heap reply }
         requires fits { self.old.place + moved reply < 2 ^ 32 }
         ensures state { OnOk result (IsState arena.new self.new) }
-        ensures terms { OnOk result (terms_of arena.new (start_map image.now.segments) self.new
-            ≡ definitions.after_reply (terms_of arena.old (start_map image.now.segments) self.old) event.now (reply_of reply)) }
+        ensures terms { OnOk result (terms_of arena.new self.new
+            ≡ definitions.after_reply (terms_of arena.old self.old) event.now (reply_of reply)) }
         ensures place { OnOk result (self.new.place ≡ self.old.place + moved reply) }
         ensures keeps { Extends arena.old arena.new }
     {
@@ -332,8 +312,6 @@ impl ReplayState {
                 self.put_constant(arena, 10, count)
             }
             Reply::Breaks(heap, address) => {
-                images_are_loaded(image);
-                heap_at_start();
                 self.move_break(heap, address);
                 self.put_constant(arena, 10, address)
             }
@@ -342,42 +320,33 @@ impl ReplayState {
     }
 
     /// What a call leaves. The length of the input is `n`.
-    fn call(
-        &mut self,
-        arena: &mut Arena,
-        image: &Image,
-        n: u32,
-        event: &Event,
-    ) -> Result<(), NoMemory>
+    fn call(&mut self, arena: &mut Arena, n: u32, event: &Event) -> Result<(), NoMemory>
         requires state { IsState arena.old self.old }
         requires place { self.old.place ≤ n }
-        requires heap { HasHeapOf self.old.memory.heap (start_heap image.now.segments) }
         ensures state { OnOk result (IsState arena.new self.new) }
-        ensures terms { OnOk result (terms_of arena.new (start_map image.now.segments) self.new
-            ≡ definitions.after_row norm n (terms_of arena.old (start_map image.now.segments) self.old) event.now Instr.Ecall) }
+        ensures terms { OnOk result (terms_of arena.new self.new
+            ≡ definitions.after_row norm n (terms_of arena.old self.old) event.now Instr.Ecall) }
         ensures place { OnOk result (self.new.place ≤ n) }
         ensures keeps { Extends arena.old arena.new }
     {
         let reply = reply_to(&self.memory, n - self.place, event.call);
-        self.answer(arena, image, event, reply)
+        self.answer(arena, event, reply)
     }
 
     /// What an instruction leaves.
     pub(crate) fn follow(
         &mut self,
         arena: &mut Arena,
-        image: &Image,
         n: u32,
         event: &Event,
         instr: Instr,
     ) -> Result<(), NoMemory>
         requires state { IsState arena.old self.old }
         requires well_formed { IsWellFormed instr }
-        requires heap { HasHeapOf self.old.memory.heap (start_heap image.now.segments) }
         requires place { self.old.place ≤ n }
         ensures state { OnOk result (IsState arena.new self.new) }
-        ensures terms { OnOk result (terms_of arena.new (start_map image.now.segments) self.new
-            ≡ definitions.after_row norm n (terms_of arena.old (start_map image.now.segments) self.old) event.now instr) }
+        ensures terms { OnOk result (terms_of arena.new self.new
+            ≡ definitions.after_row norm n (terms_of arena.old self.old) event.now instr) }
         ensures place { OnOk result (self.new.place ≤ n) }
         ensures keeps { Extends arena.old arena.new }
     {
@@ -398,7 +367,7 @@ impl ReplayState {
                 rd,
                 rs1: _,
                 imm: _,
-            } => self.load(arena, image, width, rd, event.addr),
+            } => self.load(arena, width, rd, event.addr),
             Instr::Store {
                 width,
                 rs1: _,
@@ -417,7 +386,7 @@ impl ReplayState {
                 self.put_made(arena, rd, op, a, b)
             }
             Instr::Fence { .. } => Ok(()),
-            Instr::Ecall => self.call(arena, image, n, event),
+            Instr::Ecall => self.call(arena, n, event),
             Instr::Ebreak => Ok(()),
         }
     }
@@ -427,21 +396,19 @@ impl ReplayState {
     pub(crate) fn follow_event(
         &mut self,
         arena: &mut Arena,
-        image: &Image,
         n: u32,
         event: &Event,
     ) -> Result<(), NoMemory>
         requires state { IsState arena.old self.old }
-        requires heap { HasHeapOf self.old.memory.heap (start_heap image.now.segments) }
         requires place { self.old.place ≤ n }
         ensures state { OnOk result (IsState arena.new self.new) }
-        ensures terms { OnOk result (terms_of arena.new (start_map image.now.segments) self.new
-            ≡ definitions.terms_after norm n (terms_of arena.old (start_map image.now.segments) self.old) event.now) }
+        ensures terms { OnOk result (terms_of arena.new self.new
+            ≡ definitions.terms_after norm n (terms_of arena.old self.old) event.now) }
         ensures place { OnOk result (self.new.place ≤ n) }
         ensures keeps { Extends arena.old arena.new }
     {
         match decode(event.word) {
-            Some(instr) => self.follow(arena, image, n, event, instr),
+            Some(instr) => self.follow(arena, n, event, instr),
             None => Ok(()),
         }
     }

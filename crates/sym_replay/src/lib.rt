@@ -4,7 +4,6 @@
 
 mod calls;
 mod effects;
-mod image;
 mod pins;
 mod state;
 mod whole;

@@ -8,7 +8,7 @@ ghost use Rattle.term_arena.specs.Trees.{tree_of, Extends, trees_of};
 ghost use Rattle.normal_form.specs.Norm.{norm};
 ghost use Rattle.normal_form.specs.Normal.{IsNormal};
 ghost use Rattle.term_model.specs.ByteNumber.{TakesByteNumber};
-ghost use Rattle.memory_map.specs.Cells.{Map, start_map, next_address};
+ghost use Rattle.memory_map.specs.Cells.{next_address};
 ghost use Rattle.rv_decode.specs.Rows.{IsWellFormed};
 ghost use Rattle.rv_machine.specs.State.{bits as bits_of};
 ghost use Rattle.replay_law.specs.Forms.{with_conditions, branch_conditions};
@@ -24,7 +24,6 @@ ghost use Rattle.sym_replay.specs.Pins.{call_conditions};
 
 use crate::effects::bits;
 use crate::state::ReplayState;
-use elf32::Image;
 use no_memory::NoMemory;
 use path_condition::Conditions;
 use rv_decode::{Cond, Instr, decode};
@@ -104,7 +103,6 @@ fn add_outcome(
 fn add_fetched_byte(
     conditions: &mut Conditions,
     arena: &mut Arena,
-    image: &Image,
     state: &ReplayState,
     address: u32,
     word: u32,
@@ -114,11 +112,11 @@ fn add_fetched_byte(
     requires state { IsState arena.old state.now }
     requires byte { k < 4 }
     ensures trees { OnOk result (trees_of arena.new conditions.new
-        ≡ with_conditions (trees_of arena.old conditions.old) (forms.succeeds (fetched_byte norm (terms_of arena.old (start_map image.now.segments) state.now) address word k))) }
+        ≡ with_conditions (trees_of arena.old conditions.old) (forms.succeeds (fetched_byte norm (terms_of arena.old state.now) address word k))) }
     ensures listed { Belong arena.new conditions.new }
     ensures keeps { Extends arena.old arena.new }
 {
-    let byte = state.byte(arena, image, address)?;
+    let byte = state.byte(arena, address)?;
     let wanted = arena.constant(u32::from(byte_of(k, word)))?;
     let same = make(arena, Op::Eq, byte, wanted)?;
     conditions.add_holds(arena, same)
@@ -129,7 +127,6 @@ fn add_fetched_byte(
 fn add_fetch(
     conditions: &mut Conditions,
     arena: &mut Arena,
-    image: &Image,
     state: &ReplayState,
     address: u32,
     word: u32,
@@ -137,17 +134,17 @@ fn add_fetch(
     requires listed { Belong arena.old conditions.old }
     requires state { IsState arena.old state.now }
     ensures trees { OnOk result (trees_of arena.new conditions.new
-        ≡ with_conditions (trees_of arena.old conditions.old) (fetch_conditions norm (terms_of arena.old (start_map image.now.segments) state.now) address word)) }
+        ≡ with_conditions (trees_of arena.old conditions.old) (fetch_conditions norm (terms_of arena.old state.now) address word)) }
     ensures listed { Belong arena.new conditions.new }
     ensures keeps { Extends arena.old arena.new }
 {
     let second = address.wrapping_add(1);
     let third = second.wrapping_add(1);
     let fourth = third.wrapping_add(1);
-    add_fetched_byte(conditions, arena, image, state, address, word, 0)?;
-    add_fetched_byte(conditions, arena, image, state, second, word, 1)?;
-    add_fetched_byte(conditions, arena, image, state, third, word, 2)?;
-    add_fetched_byte(conditions, arena, image, state, fourth, word, 3)
+    add_fetched_byte(conditions, arena, state, address, word, 0)?;
+    add_fetched_byte(conditions, arena, state, second, word, 1)?;
+    add_fetched_byte(conditions, arena, state, third, word, 2)?;
+    add_fetched_byte(conditions, arena, state, fourth, word, 3)
 }
 
 /// Adds that a register has a value.
@@ -180,9 +177,8 @@ fn add_call(
 ) -> Result<(), NoMemory>
     requires listed { Belong arena.old conditions.old }
     requires state { IsState arena.old state.now }
-    ensures trees { (image : Map) →
-        OnOk result (trees_of arena.new conditions.new
-        ≡ with_conditions (trees_of arena.old conditions.old) (call_conditions (terms_of arena.old image state.now) call)) }
+    ensures trees { OnOk result (trees_of arena.new conditions.new
+        ≡ with_conditions (trees_of arena.old conditions.old) (call_conditions (terms_of arena.old state.now) call)) }
     ensures listed { Belong arena.new conditions.new }
     ensures keeps { Extends arena.old arena.new }
 {
@@ -272,9 +268,8 @@ fn add_row(
     requires listed { Belong arena.old conditions.old }
     requires state { IsState arena.old state.now }
     requires well_formed { IsWellFormed instr }
-    ensures trees { (image : Map) →
-        OnOk result (trees_of arena.new conditions.new
-        ≡ with_conditions (trees_of arena.old conditions.old) (row_conditions norm (terms_of arena.old image state.now) event.now shown instr)) }
+    ensures trees { OnOk result (trees_of arena.new conditions.new
+        ≡ with_conditions (trees_of arena.old conditions.old) (row_conditions norm (terms_of arena.old state.now) event.now shown instr)) }
     ensures listed { Belong arena.new conditions.new }
     ensures keeps { Extends arena.old arena.new }
 {
@@ -322,7 +317,6 @@ fn add_row(
 fn add_word(
     conditions: &mut Conditions,
     arena: &mut Arena,
-    image: &Image,
     state: &ReplayState,
     event: &Event,
     shown: u32,
@@ -330,11 +324,11 @@ fn add_word(
     requires listed { Belong arena.old conditions.old }
     requires state { IsState arena.old state.now }
     ensures trees { OnOk result (trees_of arena.new conditions.new
-        ≡ with_conditions (trees_of arena.old conditions.old) (fetch_conditions norm (terms_of arena.old (start_map image.now.segments) state.now) event.now.pc event.now.word ++ instr_conditions norm (terms_of arena.old (start_map image.now.segments) state.now) event.now shown (decoded event.now.word))) }
+        ≡ with_conditions (trees_of arena.old conditions.old) (fetch_conditions norm (terms_of arena.old state.now) event.now.pc event.now.word ++ instr_conditions norm (terms_of arena.old state.now) event.now shown (decoded event.now.word))) }
     ensures listed { Belong arena.new conditions.new }
     ensures keeps { Extends arena.old arena.new }
 {
-    add_fetch(conditions, arena, image, state, event.pc, event.word)?;
+    add_fetch(conditions, arena, state, event.pc, event.word)?;
     match decode(event.word) {
         Some(instr) => add_row(conditions, arena, state, event, shown, instr),
         None => Ok(()),
@@ -347,7 +341,6 @@ fn add_word(
 pub(crate) fn add_event(
     conditions: &mut Conditions,
     arena: &mut Arena,
-    image: &Image,
     state: &ReplayState,
     event: &Event,
     shown: u32,
@@ -355,12 +348,12 @@ pub(crate) fn add_event(
     requires listed { Belong arena.old conditions.old }
     requires state { IsState arena.old state.now }
     ensures trees { OnOk result (trees_of arena.new conditions.new
-        ≡ with_conditions (trees_of arena.old conditions.old) (event_conditions norm (terms_of arena.old (start_map image.now.segments) state.now) event.now shown)) }
+        ≡ with_conditions (trees_of arena.old conditions.old) (event_conditions norm (terms_of arena.old state.now) event.now shown)) }
     ensures listed { Belong arena.new conditions.new }
     ensures keeps { Extends arena.old arena.new }
 {
     match event.kind {
         EventKind::NoFetch => Ok(()),
-        _ => add_word(conditions, arena, image, state, event, shown),
+        _ => add_word(conditions, arena, state, event, shown),
     }
 }

@@ -7,16 +7,15 @@ ghost use Rattle.term_model.specs.declared.Op.TheVariants.{Alu};
 ghost use Rattle.rv_word.specs.declared.AluOp.TheVariants.{Add};
 ghost use Rattle.term_arena.specs.Trees.{tree_of, Extends};
 ghost use Rattle.normal_form.specs.Norm.{norm};
-ghost use Rattle.memory_map.specs.Cells.{Map, start_map, next_address, byte_at};
-ghost use Rattle.memory_map.specs.Heaps.{heap_size, start_heap, may_break, with_break};
+ghost use Rattle.memory_map.specs.Cells.{byte_at};
+ghost use Rattle.memory_map.specs.Heaps.{may_break, with_break};
 ghost use Rattle.replay_law.specs.Terms.{reg_term, put_reg, put_trees, with_tree, zero_between, start_terms};
 ghost use Rattle.replay_law.specs.Terms as definitions;
 ghost use Rattle.path_condition.specs.Sums.{IsNormalTermOf};
-ghost use Rattle.sym_replay.specs.States.{terms_of, register_tree, IsTermIn, IsState, HasHeapOf};
+ghost use Rattle.sym_replay.specs.States.{terms_of, register_tree, IsTermIn, IsState};
 ghost use Rattle.std.specs.Ordering.{nat_cmp};
 ghost use Rattle.std.specs.BTreeMap.{get};
 
-use crate::image;
 use elf32::Image;
 use memory_map::{Heap, Memory};
 use no_memory::NoMemory;
@@ -26,8 +25,8 @@ use std::alloc::Global;
 use std::collections::BTreeMap;
 use term_arena::{Arena, Op, Term};
 
-/// Registers and memory as terms over the input, how many bytes of the input have been read, and a memory whose addresses
-/// and rights are those of the run. Where there is no term for a byte it is as at the start of the program.
+/// Registers and memory as terms over the input, how many bytes of the input have been read, and a memory that nothing is
+/// stored in: its addresses and rights are those of the run, and where there is no term for a byte its byte is the run's.
 #[derive(Drop)]
 pub(crate) struct ReplayState {
     pub(crate) registers: [Term; 32],
@@ -44,8 +43,7 @@ impl ReplayState {
         image: &Image,
     ) -> Result<ReplayState, NoMemory>
         ensures state { IfOk result (IsState arena.new) }
-        ensures terms { IfOk result (λ s. terms_of arena.new (start_map image.now.segments) s ≡ start_terms image.now.segments) }
-        ensures heap { IfOk result (λ s. HasHeapOf s.memory.heap (start_heap image.now.segments)) }
+        ensures terms { IfOk result (λ s. terms_of arena.new s ≡ start_terms image.now.segments) }
         ensures keeps { Extends arena.old arena.new }
     {
         let memory = Memory::start(alloc, image)?;
@@ -76,8 +74,8 @@ impl ReplayState {
     pub(crate) fn put(&mut self, register: u8, t: Term)
         requires { register < 32 }
         ensures state { (trees : List Tree) → IsState trees self.old → IsTermIn trees t → IsState trees self.new }
-        ensures terms { (trees : List Tree) (image : Map) →
-            terms_of trees image self.new ≡ put_reg register (tree_of trees t) (terms_of trees image self.old) }
+        ensures terms { (trees : List Tree) →
+            terms_of trees self.new ≡ put_reg register (tree_of trees t) (terms_of trees self.old) }
         ensures place { self.new.place ≡ self.old.place }
     {
         if register != 0 {
@@ -86,19 +84,14 @@ impl ReplayState {
     }
 
     /// The term of the byte at an address.
-    pub(crate) fn byte(
-        &self,
-        arena: &mut Arena,
-        image: &Image,
-        address: u32,
-    ) -> Result<Term, NoMemory>
+    pub(crate) fn byte(&self, arena: &mut Arena, address: u32) -> Result<Term, NoMemory>
         requires { IsState arena.old self.now }
-        ensures term { IfOk result (IsNormalTermOf arena.new ((terms_of arena.old (start_map image.now.segments) self.now).bytes address)) }
+        ensures term { IfOk result (IsNormalTermOf arena.new ((terms_of arena.old self.now).bytes address)) }
         ensures keeps { Extends arena.old arena.new }
     {
         match self.bytes.get(&address) {
             Some(t) => Ok(*t),
-            None => arena.constant(u32::from(image::byte_at(image, address))),
+            None => arena.constant(u32::from(self.memory.byte(address))),
         }
     }
 
@@ -106,9 +99,9 @@ impl ReplayState {
     pub(crate) fn put_byte(&mut self, address: u32, t: Term) -> Result<(), NoMemory>
         ensures state { (trees : List Tree) → IsState trees self.old → IsTermIn trees t →
             OnOk result (IsState trees self.new) }
-        ensures terms { (trees : List Tree) (image : Map) →
-            OnOk result (terms_of trees image self.new
-            ≡ record (terms_of trees image self.old) { bytes = with_tree (terms_of trees image self.old).bytes address (tree_of trees t) }) }
+        ensures terms { (trees : List Tree) →
+            OnOk result (terms_of trees self.new
+            ≡ record (terms_of trees self.old) { bytes = with_tree (terms_of trees self.old).bytes address (tree_of trees t) }) }
         ensures registers { self.new.registers ≡ self.old.registers }
         ensures place { self.new.place ≡ self.old.place }
         ensures memory { self.new.memory ≡ self.old.memory }
@@ -146,13 +139,12 @@ impl ReplayState {
     pub(crate) fn move_break(&mut self, heap: Heap, address: u32)
         requires heap { self.old.memory.heap ≡ Some heap }
         requires place { may_break heap address ≡ true }
-        requires from { heap.start ≤ heap.brk }
-        requires most { heap.brk ≤ heap.start + heap_size }
         ensures state { (trees : List Tree) → IsState trees self.old → IsState trees self.new }
-        ensures terms { (trees : List Tree) (image : Map) →
-            ((q : ℕ) → heap.start ≤ q → q < heap.start + heap_size → byte_at image q ≡ 0) →
-            terms_of trees image self.new
-            ≡ record (terms_of trees image self.old) { bytes = zero_between (terms_of trees image self.old).bytes heap.brk address; cells = with_break self.old.memory.map heap.brk address; heap = Some (record { start = heap.start; brk = address }) } }
+        ensures terms { (trees : List Tree) → terms_of trees self.new ≡ record (terms_of trees self.old) {
+          bytes = zero_between (terms_of trees self.old).bytes heap.brk address;
+          cells = with_break self.old.memory.map heap.brk address;
+          heap = Some (record { start = heap.start; brk = address });
+        } }
         ensures place { self.new.place ≡ self.old.place }
         ensures heap { self.new.memory.heap ≡ Some (record { start = heap.start; brk = address }) }
     {

@@ -72,8 +72,8 @@ pub fn replay(
     for i in 0..events.len() {
         let event = event_at(events, i);
         let shown = shown_after(events, i, transcript.end);
-        add_event(&mut conditions, arena, image, &state, &event, shown)?;
-        state.follow_event(arena, image, transcript.n, &event)?;
+        add_event(&mut conditions, arena, &state, &event, shown)?;
+        state.follow_event(arena, transcript.n, &event)?;
     }
     Ok(conditions)
 }

@@ -9,7 +9,7 @@ use Rattle.sym_replay.proofs.PinLemmas.{four_lists, grown_register}
 use Rattle.sym_replay.proofs.pins.add_call.Goals as goal
 
 pub returns-clause-trees : goal.returns-clause-trees
-returns-clause-trees c image =
+returns-clause-trees c =
     let s = c.args.state.now in
     let a0 = c.args.arena.now in
     let a1 = c.add_register.new.arena in

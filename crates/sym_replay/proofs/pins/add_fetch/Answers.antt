@@ -1,7 +1,7 @@
 use Rattle.std.proofs.Common.{◌∙◌, [], ◌∷◌}
 use Rattle.term_arena.specs.Trees.{trees_of}
 use Rattle.normal_form.specs.Norm.{norm}
-use Rattle.memory_map.specs.Cells.{start_map, next_address}
+use Rattle.memory_map.specs.Cells.{next_address}
 use Rattle.replay_law.specs.Forms.{with_conditions}
 use Rattle.replay_law.specs.Follow.{fetched_byte}
 use Rattle.path_condition.proofs.ListLemmas.{then_ok}
@@ -13,7 +13,6 @@ use Rattle.sym_replay.proofs.pins.add_fetch.Goals as goal
 pub returns-clause-trees : goal.returns-clause-trees
 returns-clause-trees c =
     let s = c.args.state.now in
-    let image = start_map c.args.image.now.segments in
     let a0 = c.args.arena.now in
     let a1 = c.add_fetched_byte.new.arena in
     let a2 = c.add_fetched_byte-2.new.arena in
@@ -25,7 +24,7 @@ returns-clause-trees c =
     let one = c.in_ok-add_fetched_byte.ensures.keeps in
     let two = further a0 a1 a2 one c.in_ok-add_fetched_byte-2.ensures.keeps in
     let three = further a0 a2 a3 two c.in_ok-add_fetched_byte-3.ensures.keeps in
-    let terms = terms_of a0 image s in
+    let terms = terms_of a0 s in
     let word = c.args.word in
     let second = next_address c.args.address in
     let third = next_address second in
@@ -34,6 +33,6 @@ returns-clause-trees c =
     (λ e. four_more t0 t1 t2 t3 (trees_of c.add_fetched_byte-4.new.arena c.add_fetched_byte-4.new.conditions)
     (fetched_byte norm terms c.args.address word 0) (fetched_byte norm terms second word 1) (fetched_byte norm terms third word 2) (fetched_byte norm terms fourth word 3)
     c.in_ok-add_fetched_byte.ensures.trees
-    (c.in_ok-add_fetched_byte-2.ensures.trees ∙ (λ i. with_conditions t1 (fetched_byte norm (grown_terms a0 a1 s image one c.requires.state i) second word 1 ∷ [])))
-    (c.in_ok-add_fetched_byte-3.ensures.trees ∙ (λ i. with_conditions t2 (fetched_byte norm (grown_terms a0 a2 s image two c.requires.state i) third word 2 ∷ [])))
-    (e ∙ (λ i. with_conditions t3 (fetched_byte norm (grown_terms a0 a3 s image three c.requires.state i) fourth word 3 ∷ []))))
+    (c.in_ok-add_fetched_byte-2.ensures.trees ∙ (λ i. with_conditions t1 (fetched_byte norm (grown_terms a0 a1 s one c.requires.state i) second word 1 ∷ [])))
+    (c.in_ok-add_fetched_byte-3.ensures.trees ∙ (λ i. with_conditions t2 (fetched_byte norm (grown_terms a0 a2 s two c.requires.state i) third word 2 ∷ [])))
+    (e ∙ (λ i. with_conditions t3 (fetched_byte norm (grown_terms a0 a3 s three c.requires.state i) fourth word 3 ∷ []))))

@@ -3,7 +3,6 @@ use Rattle.term_model.specs.Tree.{Tree}
 use Rattle.rv_decode.specs.declared.instr.Instr.{Instr}
 use Rattle.term_arena.specs.Trees.{trees_of}
 use Rattle.normal_form.specs.Norm.{norm}
-use Rattle.memory_map.specs.Cells.{start_map}
 use Rattle.replay_law.specs.Forms.{with_conditions}
 use Rattle.replay_law.specs.Follow.{fetch_conditions, row_conditions, instr_conditions}
 use Rattle.path_condition.proofs.ListLemmas.{then_ok}
@@ -17,15 +16,14 @@ add_row-requires-clause-state c = grown_state c.args.arena.now c.add_fetch.new.a
 
 pub returns-in-Some-clause-trees : goal.returns-in-Some-clause-trees
 returns-in-Some-clause-trees c =
-    let image = start_map c.args.image.now.segments in
     let e = c.args.event.now in
-    let grown = grown_terms c.args.arena.now c.add_fetch.new.arena c.args.state.now image c.in_ok-add_fetch.ensures.keeps c.requires.state in
-    let terms = terms_of c.args.arena.now image c.args.state.now in
+    let grown = grown_terms c.args.arena.now c.add_fetch.new.arena c.args.state.now c.in_ok-add_fetch.ensures.keeps c.requires.state in
+    let terms = terms_of c.args.arena.now c.args.state.now in
     let old = trees_of c.args.arena.now c.args.conditions.now in
     let between = trees_of c.add_fetch.new.arena c.add_fetch.new.conditions in
     let fetch = fetch_conditions norm terms e.pc e.word in
     let row = row_conditions norm terms e c.args.shown c.in-Some.instr in
-    then_ok c.add_row.result (c.add_row.ensures.trees image)
+    then_ok c.add_row.result (c.add_row.ensures.trees)
     (λ h. h
     ∙ (λ i. with_conditions between (row_conditions norm (grown i) e c.args.shown c.in-Some.instr))
     ∙ ap (λ (ts : List Tree). with_conditions ts row) c.in_ok-add_fetch.ensures.trees

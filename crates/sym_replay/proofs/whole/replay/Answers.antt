@@ -5,24 +5,20 @@ use Rattle.term_model.specs.Tree.{Tree}
 use Rattle.term_model.specs.Conditions.{Hold}
 use Rattle.term_arena.specs.Trees.{trees_of}
 use Rattle.normal_form.specs.Norm.{norm}
-use Rattle.memory_map.specs.Cells.{start_map}
 use Rattle.rv_machine.specs.Class.{in_class}
 use Rattle.replay_law.specs.Crash.{AreProper}
 use Rattle.replay_law.specs.Forms.{with_conditions}
-use Rattle.replay_law.specs.Terms.{SymbolicState, terms_after}
-use Rattle.memory_map.specs.Heaps.{start_heap}
-use Rattle.sym_replay.proofs.HeapLemmas.{event_heap}
+use Rattle.replay_law.specs.Terms.{terms_after}
 use Rattle.replay_law.specs.Follow.{event_conditions, shown_next}
 use Rattle.trace_conditions.specs.Conditions as whole
 use Rattle.path_condition.proofs.ListLemmas.{grown_trees, grown_belong}
-use Rattle.sym_replay.specs.States.{terms_of, HasHeapOf}
+use Rattle.sym_replay.specs.States.{terms_of}
 use Rattle.sym_replay.proofs.StateLemmas.{grown_state, grown_terms, further}
 use Rattle.sym_replay.proofs.RunLemmas.{at_start, next_event, at_end}
 use Rattle.sym_replay.proofs.whole.replay.Goals as goal
 
 pub loop-i-init : goal.loop-i-init
 loop-i-init c =
-    let image = start_map c.args.image.now.segments in
     let arena = c.start.new.arena in
     let program : Program = program_of c.args.image.now in
     let none : c.new-conditions.result ≡ [] = c.new-conditions.ensures.empty in
@@ -31,9 +27,8 @@ loop-i-init c =
       λ k d lt. absurd (let h : k < 0 = subst (λ (ts : List ℕ). k < length ts) none lt in omega arith),
       c.in_ok-state.ensures.state,
       omega arith,
-      c.in_ok-state.ensures.heap,
       c.in_ok-state.ensures.keeps,
-      at_start program c.args.transcript.now (trees_of arena c.new-conditions.result) (terms_of arena image c.in_ok-state.state) (ap (trees_of arena) none) start,
+      at_start program c.args.transcript.now (trees_of arena c.new-conditions.result) (terms_of arena c.in_ok-state.state) (ap (trees_of arena) none) start,
     )
 
 pub follow_event-requires-clause-state : goal.follow_event-requires-clause-state
@@ -41,13 +36,12 @@ follow_event-requires-clause-state c = grown_state c.loop-i.arena c.add_event.ne
 
 pub loop-i-preserved : goal.loop-i-preserved
 loop-i-preserved c =
-    let image = start_map c.args.image.now.segments in
     let keeps = c.in_ok-follow_event.ensures.keeps in
-    let grown = grown_terms c.loop-i.arena c.add_event.new.arena c.loop-i.state image c.in_ok-add_event.ensures.keeps c.loop-i.invariant.1 in
+    let grown = grown_terms c.loop-i.arena c.add_event.new.arena c.loop-i.state c.in_ok-add_event.ensures.keeps c.loop-i.invariant.1 in
     let later = grown_trees c.add_event.new.arena c.follow_event.new.arena keeps c.add_event.new.conditions c.in_ok-add_event.ensures.listed in
     let run = c.args.transcript.now in
     let program : Program = program_of c.args.image.now in
-    let s = terms_of c.loop-i.arena image c.loop-i.state in
+    let s = terms_of c.loop-i.arena c.loop-i.state in
     let e = c.event_at-event.result in
     let item : slice_get run.events c.loop-i.i ≡ Some e = sym (ap (λ es. slice_get es c.loop-i.i) c.as_slice-events.ensures) ∙ c.event_at-event.ensures in
     let shown : c.shown_after-shown.result ≡ shown_next (drop (c.loop-i.i + 1) run.events) run.end = c.shown_after-shown.ensures ∙ ap (λ es. shown_next (drop (c.loop-i.i + 1) es) run.end) c.as_slice-events.ensures in
@@ -57,19 +51,17 @@ loop-i-preserved c =
       grown_belong c.add_event.new.arena c.follow_event.new.arena keeps c.add_event.new.conditions c.in_ok-add_event.ensures.listed,
       c.in_ok-follow_event.ensures.state,
       c.in_ok-follow_event.ensures.place,
-      subst (λ (t : SymbolicState). HasHeapOf t.heap (start_heap c.args.image.now.segments)) (sym after) (event_heap run.n s e (start_heap c.args.image.now.segments) c.loop-i.invariant.3),
-      further c.args.arena.now c.loop-i.arena c.follow_event.new.arena c.loop-i.invariant.4 (further c.loop-i.arena c.add_event.new.arena c.follow_event.new.arena c.in_ok-add_event.ensures.keeps keeps),
-      next_event run.n run.events run.end (whole.conditions_of program run) c.loop-i.i e item listed (trees_of c.follow_event.new.arena c.add_event.new.conditions) s (terms_of c.follow_event.new.arena image c.follow_event.new.self) c.loop-i.invariant.5 new after,
+      further c.args.arena.now c.loop-i.arena c.follow_event.new.arena c.loop-i.invariant.3 (further c.loop-i.arena c.add_event.new.arena c.follow_event.new.arena c.in_ok-add_event.ensures.keeps keeps),
+      next_event run.n run.events run.end (whole.conditions_of program run) c.loop-i.i e item listed (trees_of c.follow_event.new.arena c.add_event.new.conditions) s (terms_of c.follow_event.new.arena c.follow_event.new.self) c.loop-i.invariant.4 new after,
     )
 
 pub returns-clause-trees : goal.returns-clause-trees
 returns-clause-trees c =
-    let image = start_map c.args.image.now.segments in
     let run = c.args.transcript.now in
     let program : Program = program_of c.args.image.now in
     let same : length c.as_slice-events.result.now ≡ length run.events = ap length c.as_slice-events.ensures in
     let last : c.loop-i.i ≡ length run.events = omega (arith, same, c.loop-i-test.false, c.loop-i.auto.i-end) in
-    at_end run.n run.events run.end (whole.conditions_of program run) (trees_of c.loop-i.arena c.loop-i.conditions) (terms_of c.loop-i.arena image c.loop-i.state) c.loop-i.i last c.loop-i.invariant.5
+    at_end run.n run.events run.end (whole.conditions_of program run) (trees_of c.loop-i.arena c.loop-i.conditions) (terms_of c.loop-i.arena c.loop-i.state) c.loop-i.i last c.loop-i.invariant.4
 
 pub returns-clause-class : goal.returns-clause-class
 returns-clause-class c limit x y p k i =

@@ -1,10 +1,9 @@
 use Rattle.std.proofs.Common.{sym, ap, ◌∙◌}
 use Rattle.term_model.specs.Tree.{Const}
-use Rattle.memory_map.specs.Cells.{start_map}
 use Rattle.replay_law.specs.Terms.{put_reg, after_reply}
 use Rattle.sym_replay.specs.States.{terms_of}
 use Rattle.sym_replay.specs.Replies.{reply_of}
-use Rattle.sym_replay.proofs.HeapLemmas.{clear_heap, on_ok_then}
+use Rattle.sym_replay.proofs.HeapLemmas.{on_ok_then}
 use Rattle.sym_replay.proofs.state.ReplayState.answer.Goals as goal
 
 pub put_constant-requires-in-Breaks-clause-state : goal.put_constant-requires-in-Breaks-clause-state
@@ -12,14 +11,10 @@ put_constant-requires-in-Breaks-clause-state c = c.move_break.ensures.state c.ar
 
 pub returns-in-Breaks-clause-terms : goal.returns-in-Breaks-clause-terms
 returns-in-Breaks-clause-terms c =
-    let ss = c.args.image.now.segments in
-    let h = c.in-Breaks.heap in
-    let is = rw c.in-Breaks.is at c.requires.reply in
-    let zero = clear_heap ss c.args.self.now.memory.heap h c.requires.heap is.0 c.images_are_loaded.ensures in
-    let moved = c.move_break.ensures.terms c.args.arena.now (start_map ss) zero in
+    let moved = c.move_break.ensures.terms c.args.arena.now in
     on_ok_then c.put_constant-in-Breaks.result
-    (terms_of c.put_constant-in-Breaks.new.arena (start_map ss) c.put_constant-in-Breaks.new.self)
-    (put_reg 10 (Const c.in-Breaks.address) (terms_of c.args.arena.now (start_map ss) c.move_break.new.self))
-    (after_reply (terms_of c.args.arena.now (start_map ss) c.args.self.now) c.args.event.now (reply_of c.args.reply))
-    (ap (put_reg 10 (Const c.in-Breaks.address)) moved ∙ ap (λ r. after_reply (terms_of c.args.arena.now (start_map ss) c.args.self.now) c.args.event.now (reply_of r)) (sym c.in-Breaks.is))
-    (c.put_constant-in-Breaks.ensures.terms (start_map ss))
+    (terms_of c.put_constant-in-Breaks.new.arena c.put_constant-in-Breaks.new.self)
+    (put_reg 10 (Const c.in-Breaks.address) (terms_of c.args.arena.now c.move_break.new.self))
+    (after_reply (terms_of c.args.arena.now c.args.self.now) c.args.event.now (reply_of c.args.reply))
+    (ap (put_reg 10 (Const c.in-Breaks.address)) moved ∙ ap (λ r. after_reply (terms_of c.args.arena.now c.args.self.now) c.args.event.now (reply_of r)) (sym c.in-Breaks.is))
+    c.put_constant-in-Breaks.ensures.terms

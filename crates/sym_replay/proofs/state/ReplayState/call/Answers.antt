@@ -1,5 +1,4 @@
 use Rattle.std.proofs.Common.{ap, ◌∙◌}
-use Rattle.memory_map.specs.Cells.{start_map}
 use Rattle.replay_law.specs.Terms.{after_reply}
 use Rattle.sym_replay.specs.States.{terms_of}
 use Rattle.sym_replay.specs.Replies.{reply_of}
@@ -8,8 +7,7 @@ use Rattle.sym_replay.proofs.state.ReplayState.call.Goals as goal
 
 pub returns-clause-terms : goal.returns-clause-terms
 returns-clause-terms c =
-    let image = start_map c.args.image.now.segments in
-    let s = terms_of c.args.arena.now image c.args.self.now in
-    on_ok_then c.answer.result (terms_of c.answer.new.arena image c.answer.new.self) (after_reply s c.args.event.now (reply_of c.reply_to-reply.result)) _
+    let s = terms_of c.args.arena.now c.args.self.now in
+    on_ok_then c.answer.result (terms_of c.answer.new.arena c.answer.new.self) (after_reply s c.args.event.now (reply_of c.reply_to-reply.result)) _
     (ap (after_reply s c.args.event.now) c.reply_to-reply.ensures.reply)
     c.answer.ensures.terms

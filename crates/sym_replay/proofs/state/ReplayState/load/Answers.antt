@@ -1,6 +1,5 @@
 use Rattle.std.proofs.Common.{◌∙◌, sym, subst}
 use Rattle.normal_form.specs.Normal.{IsNormal}
-use Rattle.memory_map.specs.Cells.{start_map}
 use Rattle.replay_law.specs.Terms.{put_reg}
 use Rattle.sym_replay.proofs.StateLemmas.{grown_state, grown_terms}
 use Rattle.sym_replay.proofs.state.ReplayState.load.Goals as goal
@@ -12,6 +11,5 @@ returns-clause-state c =
 
 pub returns-clause-terms : goal.returns-clause-terms
 returns-clause-terms c =
-    let image = start_map c.args.image.now.segments in
-    let grown = grown_terms c.args.arena.now c.loaded.new.arena c.args.self.now image c.in_ok-t.ensures.keeps c.requires.state in
-    c.put.ensures.terms c.loaded.new.arena image ∙ (λ i. put_reg c.args.register (c.in_ok-t.ensures.term.is i) (grown i))
+    let grown = grown_terms c.args.arena.now c.loaded.new.arena c.args.self.now c.in_ok-t.ensures.keeps c.requires.state in
+    c.put.ensures.terms c.loaded.new.arena ∙ (λ i. put_reg c.args.register (c.in_ok-t.ensures.term.is i) (grown i))

@@ -4,16 +4,19 @@ use Rattle.std.specs.BTreeMap.{get}
 use Rattle.term_arena.specs.Trees.{trees_of}
 use Rattle.memory_map.specs.Heaps.{Space, after_break}
 use Rattle.memory_map.specs.declared.heap.Heap.{Heap}
+use Rattle.sym_replay.specs.States.{byte_tree}
 use Rattle.sym_replay.proofs.HeapLemmas.{swept, cleared_state, break_done}
 use Rattle.sym_replay.proofs.state.ReplayState.move_break.Goals as goal
 
 pub returns-clause-terms : goal.returns-clause-terms
-returns-clause-terms c trees image zero =
+returns-clause-terms c trees =
     let s = c.args.self.now in
     let done = c.brk.ensures.after ∙ (λ i. after_break (c.clear.ensures.memory i).map (c.clear.ensures.memory i).heap c.args.address) ∙ break_done s.memory.map s.memory.heap c.args.heap c.args.address c.requires.heap c.requires.place in
+    let byte = λ (q : ℕ). (λ i. byte_tree trees (done i).map q (get nat_cmp c.clear.new.self.bytes q))
+    ∙ swept trees s.memory.map c.args.heap c.args.address c.min.result c.max.result q (get nat_cmp s.bytes q) (get nat_cmp c.clear.new.self.bytes q) c.min.ensures c.max.ensures (c.clear.ensures.bytes q) in
     (λ i. record {
       registers = trees_of trees (c.clear.ensures.registers i);
-      bytes = λ q. swept trees image c.args.heap c.args.address c.min.result c.max.result q (get nat_cmp s.bytes q) (get nat_cmp c.clear.new.self.bytes q) c.requires.from c.requires.most c.requires.place c.min.ensures c.max.ensures zero (c.clear.ensures.bytes q) i;
+      bytes = λ q. byte q i;
       place = c.clear.ensures.place i;
       cells = (done i).map;
       heap = (done i).heap;

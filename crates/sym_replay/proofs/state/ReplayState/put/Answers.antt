@@ -7,11 +7,11 @@ use Rattle.sym_replay.proofs.StateLemmas.{put_registers}
 use Rattle.sym_replay.proofs.state.ReplayState.put.Goals as goal
 
 pub returns-then-register-ne0-clause-terms : goal.returns-then-register-ne0-clause-terms
-returns-then-register-ne0-clause-terms c trees image =
+returns-then-register-ne0-clause-terms c trees =
     let no : (c.args.register == 0) ≡ false = ne_eqb c.args.register 0 c.if-register-ne0.true in
     (λ i. record {
       registers = put_registers trees c.args.self.now.registers c.args.register c.args.t no i;
-      bytes = λ a. byte_tree trees image a (get nat_cmp c.args.self.now.bytes a);
+      bytes = λ a. byte_tree trees c.args.self.now.memory.map a (get nat_cmp c.args.self.now.bytes a);
       place = c.args.self.now.place;
       cells = c.args.self.now.memory.map;
       heap = c.args.self.now.memory.heap;

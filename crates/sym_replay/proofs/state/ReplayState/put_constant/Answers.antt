@@ -9,6 +9,6 @@ returns-clause-state c =
     (constant_term c.constant.new.self c.in_ok-t.t c.args.value c.in_ok-t.ensures.below c.in_ok-t.ensures.tree (omega arith))
 
 pub returns-clause-terms : goal.returns-clause-terms
-returns-clause-terms c image =
-    let grown = grown_terms c.args.arena.now c.constant.new.self c.args.self.now image c.in_ok-t.ensures.keeps c.requires.state in
-    c.put.ensures.terms c.constant.new.self image ∙ (λ i. put_reg c.args.register (c.in_ok-t.ensures.tree i) (grown i))
+returns-clause-terms c =
+    let grown = grown_terms c.args.arena.now c.constant.new.self c.args.self.now c.in_ok-t.ensures.keeps c.requires.state in
+    c.put.ensures.terms c.constant.new.self ∙ (λ i. put_reg c.args.register (c.in_ok-t.ensures.tree i) (grown i))

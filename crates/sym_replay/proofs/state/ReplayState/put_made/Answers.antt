@@ -9,6 +9,6 @@ returns-clause-state c =
     (record { belongs = c.in_ok-t.ensures.below; normal = c.in_ok-t.ensures.normal })
 
 pub returns-clause-terms : goal.returns-clause-terms
-returns-clause-terms c image =
-    let grown = grown_terms c.args.arena.now c.make.new.arena c.args.self.now image c.in_ok-t.ensures.keeps c.requires.state in
-    c.put.ensures.terms c.make.new.arena image ∙ (λ i. put_reg c.args.register (c.in_ok-t.ensures.tree i) (grown i))
+returns-clause-terms c =
+    let grown = grown_terms c.args.arena.now c.make.new.arena c.args.self.now c.in_ok-t.ensures.keeps c.requires.state in
+    c.put.ensures.terms c.make.new.arena ∙ (λ i. put_reg c.args.register (c.in_ok-t.ensures.tree i) (grown i))

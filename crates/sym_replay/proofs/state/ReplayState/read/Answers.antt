@@ -18,24 +18,23 @@ loop-k-preserved c =
       placed_state c.input.new.self c.put_byte.new.self (c.put_byte.new.self.place + 1) (c.in_ok-put_byte.ensures.state c.input.new.self state byte),
       further c.args.arena.now c.loop-k.arena c.input.new.self c.loop-k.invariant.1 keeps,
       omega (arith, c.loop-k.invariant.2),
-      λ image. (λ i. (c.in_ok-put_byte.ensures.terms c.input.new.self image i).registers)
-          ∙ (λ i. (grown_terms c.loop-k.arena c.input.new.self s image keeps c.loop-k.invariant.0 i).registers)
-          ∙ c.loop-k.invariant.3 image,
+      (λ i. (c.in_ok-put_byte.ensures.terms c.input.new.self i).registers)
+          ∙ (λ i. (grown_terms c.loop-k.arena c.input.new.self s keeps c.loop-k.invariant.0 i).registers)
+          ∙ c.loop-k.invariant.3,
       c.in_ok-put_byte.ensures.memory ∙ c.loop-k.invariant.4,
-      λ image.
-          let grown = grown_terms c.loop-k.arena c.input.new.self s image keeps c.loop-k.invariant.0 in
-          let after = (λ i. (c.in_ok-put_byte.ensures.terms c.input.new.self image i).bytes) ∙ (λ i. with_tree (grown i).bytes c.loop-k.at (c.in_ok-byte.ensures.tree i)) in
-          (λ i. put_trees (terms_of c.input.new.self image c.put_byte.new.self).bytes (next_address c.loop-k.at) (input_terms (next i) (c.args.count - (c.loop-k._k + 1))))
-          ∙ next_input (terms_of c.loop-k.arena image s).bytes (terms_of c.input.new.self image c.put_byte.new.self).bytes
-          (put_trees (terms_of c.args.arena.now image c.args.self.now).bytes c.args.address (input_terms c.args.self.now.place c.args.count))
-          c.loop-k.at s.place (c.args.count - c.loop-k._k) (c.args.count - (c.loop-k._k + 1)) (c.loop-k.invariant.5 image) more after,
+      let grown = grown_terms c.loop-k.arena c.input.new.self s keeps c.loop-k.invariant.0 in
+          let after = (λ i. (c.in_ok-put_byte.ensures.terms c.input.new.self i).bytes) ∙ (λ i. with_tree (grown i).bytes c.loop-k.at (c.in_ok-byte.ensures.tree i)) in
+          (λ i. put_trees (terms_of c.input.new.self c.put_byte.new.self).bytes (next_address c.loop-k.at) (input_terms (next i) (c.args.count - (c.loop-k._k + 1))))
+          ∙ next_input (terms_of c.loop-k.arena s).bytes (terms_of c.input.new.self c.put_byte.new.self).bytes
+          (put_trees (terms_of c.args.arena.now c.args.self.now).bytes c.args.address (input_terms c.args.self.now.place c.args.count))
+          c.loop-k.at s.place (c.args.count - c.loop-k._k) (c.args.count - (c.loop-k._k + 1)) c.loop-k.invariant.5 more after,
     )
 
 pub returns-clause-terms : goal.returns-clause-terms
-returns-clause-terms c image =
+returns-clause-terms c =
     let s = c.loop-k.self in
     let none : c.args.count - c.loop-k._k ≡ 0 = omega (arith, c.loop-k-test.false) in
     let place : s.place ≡ c.args.self.now.place + c.args.count = omega (arith, c.loop-k.invariant.2, c.loop-k-test.false, c.loop-k.auto._k-end) in
-    let bytes = no_input (terms_of c.loop-k.arena image s).bytes (put_trees (terms_of c.args.arena.now image c.args.self.now).bytes c.args.address (input_terms c.args.self.now.place c.args.count))
-    c.loop-k.at s.place (c.args.count - c.loop-k._k) (c.loop-k.invariant.5 image) none in
-    (λ i. record { registers = c.loop-k.invariant.3 image i; bytes = bytes i; place = place i; cells = (c.loop-k.invariant.4 i).map; heap = (c.loop-k.invariant.4 i).heap })
+    let bytes = no_input (terms_of c.loop-k.arena s).bytes (put_trees (terms_of c.args.arena.now c.args.self.now).bytes c.args.address (input_terms c.args.self.now.place c.args.count))
+    c.loop-k.at s.place (c.args.count - c.loop-k._k) c.loop-k.invariant.5 none in
+    (λ i. record { registers = c.loop-k.invariant.3 i; bytes = bytes i; place = place i; cells = (c.loop-k.invariant.4 i).map; heap = (c.loop-k.invariant.4 i).heap })

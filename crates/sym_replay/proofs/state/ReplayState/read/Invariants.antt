@@ -9,6 +9,6 @@ use Rattle.sym_replay.proofs.state.ReplayState.read.Given as goal
 abbrev pub invariant-loop-k : goal.invariant-loop-k
 invariant-loop-k l =
     IsState l.arena l.self × Extends l.fn.arena l.arena × (l.self.place ≡ l.fn.self.place + l._k)
-    × ((image : Map) → (terms_of l.arena image l.self).registers ≡ (terms_of l.fn.arena image l.fn.self).registers)
+    × ((terms_of l.arena l.self).registers ≡ (terms_of l.fn.arena l.fn.self).registers)
     × (l.self.memory ≡ l.fn.self.memory)
-    × ((image : Map) → put_trees (terms_of l.arena image l.self).bytes l.at (input_terms l.self.place (l.count - l._k)) ≡ put_trees (terms_of l.fn.arena image l.fn.self).bytes l.fn.address (input_terms l.fn.self.place l.count))
+    × (put_trees (terms_of l.arena l.self).bytes l.at (input_terms l.self.place (l.count - l._k)) ≡ put_trees (terms_of l.fn.arena l.fn.self).bytes l.fn.address (input_terms l.fn.self.place l.count))

@@ -8,7 +8,7 @@ use Rattle.sym_replay.proofs.StateLemmas.{with_bytes}
 use Rattle.sym_replay.proofs.state.ReplayState.store.Goals as goal
 
 pub returns-in-W-clause-terms : goal.returns-in-W-clause-terms
-returns-in-W-clause-terms c image =
-    let before = terms_of c.args.arena.now image c.args.self.now in
-    then_ok c.store_word.result (c.store_word.ensures.terms image)
+returns-in-W-clause-terms c =
+    let before = terms_of c.args.arena.now c.args.self.now in
+    then_ok c.store_word.result (c.store_word.ensures.terms)
     (λ e. e ∙ (λ i. with_bytes before (put_trees before.bytes c.args.address (stored_terms norm (sym c.in-W.is i) (tree_of c.args.arena.now c.args.t)))))

@@ -10,12 +10,12 @@ use Rattle.sym_replay.proofs.StateLemmas.{with_bytes, put_two}
 use Rattle.sym_replay.proofs.state.ReplayState.store_half.Goals as goal
 
 pub returns-clause-terms : goal.returns-clause-terms
-returns-clause-terms c image =
+returns-clause-terms c =
     let tree = tree_of c.args.arena.now c.args.t in
-    let before = terms_of c.args.arena.now image c.args.self.now in
-    let between = terms_of c.store_byte.new.arena image c.store_byte.new.self in
-    let after = terms_of c.store_byte-2.new.arena image c.store_byte-2.new.self in
+    let before = terms_of c.args.arena.now c.args.self.now in
+    let between = terms_of c.store_byte.new.arena c.store_byte.new.self in
+    let after = terms_of c.store_byte-2.new.arena c.store_byte-2.new.self in
     let same = c.in_ok-store_byte.ensures.keeps.same c.args.t c.requires.term.belongs in
-    then_ok c.store_byte-2.result (c.store_byte-2.ensures.terms image)
-    (λ e. put_two before c.args.address (byte_term norm 0 tree) (byte_term norm 1 tree) between after (c.in_ok-store_byte.ensures.terms image)
+    then_ok c.store_byte-2.result (c.store_byte-2.ensures.terms)
+    (λ e. put_two before c.args.address (byte_term norm 0 tree) (byte_term norm 1 tree) between after (c.in_ok-store_byte.ensures.terms)
     (e ∙ (λ i. with_bytes between (with_tree between.bytes (next_address c.args.address) (byte_term norm 1 (same i))))))

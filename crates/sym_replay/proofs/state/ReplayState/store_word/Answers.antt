@@ -10,17 +10,17 @@ use Rattle.sym_replay.proofs.StateLemmas.{with_bytes, put_four, grown_term}
 use Rattle.sym_replay.proofs.state.ReplayState.store_word.Goals as goal
 
 pub returns-clause-terms : goal.returns-clause-terms
-returns-clause-terms c image =
+returns-clause-terms c =
     let tree = tree_of c.args.arena.now c.args.t in
-    let before = terms_of c.args.arena.now image c.args.self.now in
-    let first = terms_of c.store_half.new.arena image c.store_half.new.self in
-    let second = terms_of c.store_byte.new.arena image c.store_byte.new.self in
-    let after = terms_of c.store_byte-2.new.arena image c.store_byte-2.new.self in
+    let before = terms_of c.args.arena.now c.args.self.now in
+    let first = terms_of c.store_half.new.arena c.store_half.new.self in
+    let second = terms_of c.store_byte.new.arena c.store_byte.new.self in
+    let after = terms_of c.store_byte-2.new.arena c.store_byte-2.new.self in
     let there = grown_term c.args.arena.now c.store_half.new.arena c.in_ok-store_half.ensures.keeps c.args.t c.requires.term in
     let same = c.in_ok-store_half.ensures.keeps.same c.args.t c.requires.term.belongs in
     let still = c.in_ok-store_byte.ensures.keeps.same c.args.t there.belongs ∙ same in
     let third = next_address (next_address c.args.address) in
-    then_ok c.store_byte-2.result (c.store_byte-2.ensures.terms image)
-    (λ e. put_four before c.args.address (byte_term norm 0 tree) (byte_term norm 1 tree) (byte_term norm 2 tree) (byte_term norm 3 tree) first second after (c.in_ok-store_half.ensures.terms image)
-    (c.in_ok-store_byte.ensures.terms image ∙ (λ i. with_bytes first (with_tree first.bytes third (byte_term norm 2 (same i)))))
+    then_ok c.store_byte-2.result (c.store_byte-2.ensures.terms)
+    (λ e. put_four before c.args.address (byte_term norm 0 tree) (byte_term norm 1 tree) (byte_term norm 2 tree) (byte_term norm 3 tree) first second after (c.in_ok-store_half.ensures.terms)
+    (c.in_ok-store_byte.ensures.terms ∙ (λ i. with_bytes first (with_tree first.bytes third (byte_term norm 2 (same i)))))
     (e ∙ (λ i. with_bytes second (with_tree second.bytes (next_address third) (byte_term norm 3 (still i))))))
