@@ -4,8 +4,7 @@ use Rattle.std.specs.FinMap.{get, get-insert}
 use Rattle.std.specs.Cmp.{nat_cmp_total}
 use Rattle.std.specs.Ordering.{nat_cmp, eq_by_cmp}
 use Rattle.memory_map.specs.Cells.{Map, Cell, with_byte, placed, next_address, byte_of_cell, byte_at, half_at, word_at}
-use Rattle.memory_map.specs.Heaps.{heap_cell, with_break}
-use Rattle.memory_map.specs.Layout.{is_among}
+use Rattle.memory_map.specs.Heaps.{heap_cell, with_break, is_in_span}
 use Rattle.memory_map.proofs.Heaps.{get-with_break}
 use Rattle.rv_decode.specs.declared.instr.Width.{Width}
 use Rattle.rv_decode.specs.declared.instr.Width.TheVariants as widths
@@ -49,7 +48,7 @@ moved_byte false false c o h e = h c e
 
 -- memory is one of bytes after the break has moved
 pub break_bytes : (m : Map) (old new : ℕ) → HoldsBytes m → HoldsBytes (with_break m old new)
-break_bytes m old new h = λ q c e. moved_byte (is_among new (old - new) q) (is_among old (new - old) q) c (get m q) (h q) (sym (get-with_break m old new q) ∙ e)
+break_bytes m old new h = λ q c e. moved_byte (is_in_span new (old - new) q) (is_in_span old (new - old) q) c (get m q) (h q) (sym (get-with_break m old new q) ∙ e)
 
 -- ---- what is read
 

@@ -7,47 +7,47 @@ use Rattle.std.specs.Cmp.{nat_cmp_total}
 use Rattle.std.specs.FinMap.{get, insert, remove, get-insert, get-remove, same_map, nat_cmp-IsAntisymmetric}
 use Rattle.memory_map.specs.Part.{Part}
 use Rattle.memory_map.specs.Cells.{Map, Cell}
-use Rattle.memory_map.specs.Heaps.{Space, heap_size, heap_cell, with_zeros, without_cells, with_break, may_break, after_break}
+use Rattle.memory_map.specs.Heaps.{Space, heap_size, heap_cell, with_zeros, without_cells, with_break, may_break, after_break, is_in_span}
 use Rattle.memory_map.specs.declared.heap.Heap.{Heap}
-use Rattle.memory_map.specs.Layout.{map_of, holds, cell_in, first_cell, end_of, is_among, resized, IsLaidOut, IsHeapPart, IsHeap, HasHeap}
+use Rattle.memory_map.specs.Layout.{map_of, holds, cell_in, first_cell, end_of, resized, IsLaidOut, IsHeapPart, IsHeap, HasHeap}
 use Rattle.memory_map.proofs.Places.{chosen, first_cell_cons, none_found, not_held_below, not_held_above}
 use Rattle.memory_map.proofs.Maps.{key_eq, get_map}
 
 -- ---- the map
 
-no_more : (a q : ℕ) (v o : Option Cell) → o ≡ cond (is_among a 0 q) v o
+no_more : (a q : ℕ) (v o : Option Cell) → o ≡ cond (is_in_span a 0 q) v o
 no_more a q v o = grind (arith, common_steps)
 
-one_more : (a n q : ℕ) (v o : Option Cell) → cond (is_among (suc a) n q) v (cond (q == a) v o) ≡ cond (is_among a (suc n) q) v o
+one_more : (a n q : ℕ) (v o : Option Cell) → cond (is_in_span (suc a) n q) v (cond (q == a) v o) ≡ cond (is_in_span a (suc n) q) v o
 one_more a n q v o = grind (arith, common_steps)
 
 -- what a look-up finds after zeros came in
-pub get-with_zeros : (n : ℕ) (m : Map) (a q : ℕ) → get (with_zeros m a n) q ≡ cond (is_among a n q) (Some heap_cell) (get m q)
+pub get-with_zeros : (n : ℕ) (m : Map) (a q : ℕ) → get (with_zeros m a n) q ≡ cond (is_in_span a n q) (Some heap_cell) (get m q)
 unfolding with_zeros
 get-with_zeros zero m a q = no_more a q (Some heap_cell) (get m q)
 get-with_zeros (suc n) m a q =
     get-with_zeros n (insert m a heap_cell) (suc a) q
-    ∙ ap (cond (is_among (suc a) n q) (Some heap_cell)) (get-insert nat_cmp_total m a heap_cell q ∙ ap (λ t. cond t (Some heap_cell) (get m q)) (key_eq q a))
+    ∙ ap (cond (is_in_span (suc a) n q) (Some heap_cell)) (get-insert nat_cmp_total m a heap_cell q ∙ ap (λ t. cond t (Some heap_cell) (get m q)) (key_eq q a))
     ∙ one_more a n q (Some heap_cell) (get m q)
 
 -- what a look-up finds after cells went
-pub get-without_cells : (n : ℕ) (m : Map) (a q : ℕ) → get (without_cells m a n) q ≡ cond (is_among a n q) None (get m q)
+pub get-without_cells : (n : ℕ) (m : Map) (a q : ℕ) → get (without_cells m a n) q ≡ cond (is_in_span a n q) None (get m q)
 unfolding without_cells
 get-without_cells zero m a q = no_more a q None (get m q)
 get-without_cells (suc n) m a q =
     get-without_cells n (remove m a) (suc a) q
-    ∙ ap (cond (is_among (suc a) n q) None) (get-remove nat_cmp_total m a q ∙ ap (λ t. cond t None (get m q)) (key_eq q a))
+    ∙ ap (cond (is_in_span (suc a) n q) None) (get-remove nat_cmp_total m a q ∙ ap (λ t. cond t None (get m q)) (key_eq q a))
     ∙ one_more a n q None (get m q)
 
 -- a cell after the break has moved
 abbrev pub cell_moved : ℕ → ℕ → ℕ → Option Cell → Option Cell
-cell_moved old new q o = cond (is_among new (old - new) q) None (cond (is_among old (new - old) q) (Some heap_cell) o)
+cell_moved old new q o = cond (is_in_span new (old - new) q) None (cond (is_in_span old (new - old) q) (Some heap_cell) o)
 
 -- what a look-up finds after the break has moved
 pub get-with_break : (m : Map) (old new q : ℕ) → get (with_break m old new) q ≡ cell_moved old new q (get m q)
 get-with_break m old new q =
     get-without_cells (old - new) (with_zeros m old (new - old)) new q
-    ∙ ap (cond (is_among new (old - new) q) None) (get-with_zeros (new - old) m old q)
+    ∙ ap (cond (is_in_span new (old - new) q) None) (get-with_zeros (new - old) m old q)
 
 -- ---- the part
 
@@ -86,7 +86,7 @@ zero_byte bs n k l h =
     get_or-append_right (take n bs) (replicate (n - length bs) 0) (length bs) k 0 len h
     ∙ get_or-replicate (n - length bs) (k - length bs) 0 0 (omega arith)
 
-by_place : (base len n q : ℕ) (c d z : Cell) → (q - base < n → q - base < len → c ≡ d) → (q - base < n → len ≤ q - base → c ≡ z) → chosen (nat_le base q && nat_lt (q - base) n) c None ≡ cond (is_among (base + n) ((base + len) - (base + n)) q) None (cond (is_among (base + len) ((base + n) - (base + len)) q) (Some z) (chosen (nat_le base q && nat_lt (q - base) len) d None))
+by_place : (base len n q : ℕ) (c d z : Cell) → (q - base < n → q - base < len → c ≡ d) → (q - base < n → len ≤ q - base → c ≡ z) → chosen (nat_le base q && nat_lt (q - base) n) c None ≡ cond (is_in_span (base + n) ((base + len) - (base + n)) q) None (cond (is_in_span (base + len) ((base + n) - (base + len)) q) (Some z) (chosen (nat_le base q && nat_lt (q - base) len) d None))
 by_place base len n q c d z kept new = grind (arith, common_steps)
 
 same_cell : (b r c s : ℕ) → b ≡ c → r ≡ s → (let x : Cell = record { byte = b; rights = r } in x) ≡ record { byte = c; rights = s }

@@ -4,7 +4,8 @@ use Rattle.std.proofs.lemmas.Bool.{cases_lt}
 use Rattle.std.proofs.lemmas.List.{length-take, length-drop, get_or-take, get_or-drop, get_or_append_left, get_or-append_right}
 use Rattle.memory_map.specs.Part.{Part}
 use Rattle.memory_map.specs.Cells.{Cell, can, write}
-use Rattle.memory_map.specs.Layout.{holds, allows, cell_in, cell_with, cell_after, first_cell, end_of, is_among, overwritten, Overwrites}
+use Rattle.memory_map.specs.Heaps.{is_in_span}
+use Rattle.memory_map.specs.Layout.{holds, allows, cell_in, cell_with, cell_after, first_cell, end_of, overwritten, Overwrites}
 use Rattle.memory_map.proofs.Places.{Ascending, held, off_the_stack, chosen, first_cell_cons, ascending_tail, found_at}
 
 -- a list with another from an offset up
@@ -18,27 +19,27 @@ pasted_length xs bs o h =
 taken : (xs : List ℕ) (o : ℕ) → o ≤ length xs → length (take o xs) ≡ o
 taken xs o h = omega (arith, length-take o xs)
 
-among_offset : (o k n : ℕ) → k < o → is_among o n k ≡ false
+among_offset : (o k n : ℕ) → k < o → is_in_span o n k ≡ false
 among_offset o k n h = grind arith
 
-among_past : (o k n : ℕ) → o + n ≤ k → is_among o n k ≡ false
+among_past : (o k n : ℕ) → o + n ≤ k → is_in_span o n k ≡ false
 among_past o k n h = grind arith
 
-among_here : (o k n : ℕ) → o ≤ k → k < o + n → is_among o n k ≡ true
+among_here : (o k n : ℕ) → o ≤ k → k < o + n → is_in_span o n k ≡ true
 among_here o k n h l = grind arith
 
 past_index : (o k n : ℕ) → o + n ≤ k → o + n + (k - o - n) ≡ k
 past_index o k n h = omega arith
 
-pasted_byte : (xs bs : List ℕ) (o k : ℕ) → o + length bs ≤ length xs → get_or (pasted xs o bs) k 0 ≡ cond (is_among o (length bs) k) (get_or bs (k - o) 0) (get_or xs k 0)
+pasted_byte : (xs bs : List ℕ) (o k : ℕ) → o + length bs ≤ length xs → get_or (pasted xs o bs) k 0 ≡ cond (is_in_span o (length bs) k) (get_or bs (k - o) 0) (get_or xs k 0)
 pasted_byte xs bs o k h =
     let tail : List ℕ = bs ++ drop (o + length bs) xs in
     let front = taken xs o (omega arith) in
-    elim (cases_lt k o) as (λ _. get_or (take o xs ++ tail) k 0 ≡ cond (is_among o (length bs) k) (get_or bs (k - o) 0) (get_or xs k 0)) [
+    elim (cases_lt k o) as (λ _. get_or (take o xs ++ tail) k 0 ≡ cond (is_in_span o (length bs) k) (get_or bs (k - o) 0) (get_or xs k 0)) [
       | inl below ↦
           get_or_append_left (take o xs) tail 0 k (omega (arith, front)) ∙ get_or-take o xs k 0 below
           ∙ sym (ap (λ t. cond t (get_or bs (k - o) 0) (get_or xs k 0)) (among_offset o k (length bs) below))
-      | inr above ↦ get_or-append_right (take o xs) tail o k 0 front above ∙ (elim (cases_lt k (o + length bs)) as (λ _. get_or tail (k - o) 0 ≡ cond (is_among o (length bs) k) (get_or bs (k - o) 0) (get_or xs k 0)) [
+      | inr above ↦ get_or-append_right (take o xs) tail o k 0 front above ∙ (elim (cases_lt k (o + length bs)) as (λ _. get_or tail (k - o) 0 ≡ cond (is_in_span o (length bs) k) (get_or bs (k - o) 0) (get_or xs k 0)) [
         | inl inside ↦
             get_or_append_left bs (drop (o + length bs) xs) 0 (k - o) (omega arith)
             ∙ sym (ap (λ t. cond t (get_or bs (k - o) 0) (get_or xs k 0)) (among_here o k (length bs) above inside))
@@ -50,7 +51,7 @@ pasted_byte xs bs o k h =
       ])
     ]
 
-same_among : (base a n q : ℕ) → base ≤ a → base ≤ q → is_among (a - base) n (q - base) ≡ is_among a n q
+same_among : (base a n q : ℕ) → base ≤ a → base ≤ q → is_in_span (a - base) n (q - base) ≡ is_in_span a n q
 same_among base a n q h l = grind arith
 
 same_offset : (base a q : ℕ) → base ≤ a → (q - base) - (a - base) ≡ q - a
@@ -58,7 +59,7 @@ same_offset base a q h = omega arith
 
 -- the cells of a part after a write
 abbrev changed : Part → ℕ → List ℕ → ℕ → Cell
-changed p a bs q = cond (is_among a (length bs) q) (record { byte = get_or bs (q - a) 0; rights = p.rights }) (cell_in p q)
+changed p a bs q = cond (is_in_span a (length bs) q) (record { byte = get_or bs (q - a) 0; rights = p.rights }) (cell_in p q)
 
 abbrev cell : ℕ → ℕ → Cell
 cell b r = record { byte = b; rights = r }
@@ -71,7 +72,7 @@ cell_changed : (p : Part) (a q : ℕ) (bs : List ℕ) → p.base ≤ a → p.bas
 cell_changed p a q bs low here high =
     ap (λ b. cell b p.rights) (pasted_byte p.bytes bs (a - p.base) (q - p.base) (omega arith)
     ∙ (λ i. cond (same_among p.base a (length bs) q low here i) (get_or bs (same_offset p.base a q low i) 0) (get_or p.bytes (q - p.base) 0)))
-    ∙ by_test (is_among a (length bs) q) (get_or bs (q - a) 0) (get_or p.bytes (q - p.base) 0) p.rights
+    ∙ by_test (is_in_span a (length bs) q) (get_or bs (q - a) 0) (get_or p.bytes (q - p.base) 0) p.rights
 
 holds_same : (p : Part) (a q : ℕ) (bs : List ℕ) → p.base ≤ a → a + length bs ≤ end_of p → holds (overwritten p a bs) q ≡ holds p q
 holds_same p a q bs low high = ap (λ n. nat_le p.base q && nat_lt (q - p.base) n) (pasted_length p.bytes bs (a - p.base) (omega arith))
@@ -81,7 +82,7 @@ merged true true b c rest h = refl
 merged true false b c rest h = (let e = h refl in cc)
 merged false h b c rest l = refl
 
-among_held : (p : Part) (a n q : ℕ) → p.base ≤ a → a + n ≤ end_of p → is_among a n q ≡ true → holds p q ≡ true
+among_held : (p : Part) (a n q : ℕ) → p.base ≤ a → a + n ≤ end_of p → is_in_span a n q ≡ true → holds p q ≡ true
 among_held p a n q low high e = grind arith
 
 off_part : (h : Bool) (c d : Cell) (rest : Option Cell) → (h ≡ true → c ≡ d) → chosen h c rest ≡ chosen h d rest
@@ -93,7 +94,7 @@ written_here : (p : Part) (a q : ℕ) (bs : List ℕ) (rest : Option Cell) → p
 written_here p a q bs rest low high =
     ap (λ t. chosen t (cell_in (overwritten p a bs) q) rest) (holds_same p a q bs low high)
     ∙ off_part (holds p q) (cell_in (overwritten p a bs) q) (changed p a bs q) rest (λ e. cell_changed p a q bs low (held p q e).0 high)
-    ∙ merged (is_among a (length bs) q) (holds p q) (get_or bs (q - a) 0) (cell_in p q) rest (among_held p a (length bs) q low high)
+    ∙ merged (is_in_span a (length bs) q) (holds p q) (get_or bs (q - a) 0) (cell_in p q) rest (among_held p a (length bs) q low high)
 
 -- the first part of a list
 pub written_first : (p : Part) (ps : List Part) (a q : ℕ) (bs : List ℕ) → p.base ≤ a → a + length bs ≤ end_of p → first_cell (overwritten p a bs ∷ ps) q ≡ cell_after a bs q (first_cell (p ∷ ps) q)
@@ -107,14 +108,14 @@ passed true true b c o h = (let e = h refl in cc)
 passed true false b c o h = refl
 passed false h b c o l = refl
 
-past_part : (x : Part) (ps qs : List Part) (a q : ℕ) (bs : List ℕ) → (is_among a (length bs) q ≡ true → holds x q ≡ false) → first_cell qs q ≡ cell_after a bs q (first_cell ps q) → first_cell (x ∷ qs) q ≡ cell_after a bs q (first_cell (x ∷ ps) q)
+past_part : (x : Part) (ps qs : List Part) (a q : ℕ) (bs : List ℕ) → (is_in_span a (length bs) q ≡ true → holds x q ≡ false) → first_cell qs q ≡ cell_after a bs q (first_cell ps q) → first_cell (x ∷ qs) q ≡ cell_after a bs q (first_cell (x ∷ ps) q)
 past_part x ps qs a q bs off e =
     first_cell_cons x qs q
     ∙ ap (chosen (holds x q) (cell_in x q)) e
-    ∙ passed (is_among a (length bs) q) (holds x q) (get_or bs (q - a) 0) (cell_in x q) (first_cell ps q) off
+    ∙ passed (is_in_span a (length bs) q) (holds x q) (get_or bs (q - a) 0) (cell_in x q) (first_cell ps q) off
     ∙ ap (cell_after a bs q) (sym (first_cell_cons x ps q))
 
-among_above : (x : Part) (a n q : ℕ) → end_of x ≤ a → is_among a n q ≡ true → holds x q ≡ false
+among_above : (x : Part) (a n q : ℕ) → end_of x ≤ a → is_in_span a n q ≡ true → holds x q ≡ false
 among_above x a n q h e = grind arith
 
 -- the part at a place
@@ -169,7 +170,7 @@ off_found stack [] q r off e = cc
 off_found stack (x ∷ ps) q r off e =
     off_step stack x ps q r (off 0 x (omega arith)) (off_found stack ps q r (λ k d l. off (suc k) d (omega arith))) e (holds x q) refl
 
-among_place : (a n q : ℕ) → is_among a n q ≡ true → (a + (q - a) ≡ q) × (q - a < n)
+among_place : (a n q : ℕ) → is_in_span a n q ≡ true → (a + (q - a) ≡ q) × (q - a < n)
 among_place a n q e = grind arith
 
 -- a write past the stack

@@ -49,6 +49,10 @@ start_heap segments = heap_past (slice_get segments (length segments - 1))
 
 -- ---- the break
 
+-- whether an address is one of so many from another up
+abbrev pub is_in_span : ℕ → ℕ → ℕ → Bool
+is_in_span address len q = nat_le address q && nat_lt (q - address) len
+
 -- a cell of the heap as it enters memory: a zero that may be read and written
 abbrev pub heap_cell : Cell
 heap_cell = record { byte = 0; rights = read + write }

@@ -6,7 +6,7 @@ use Rattle.std.specs.Option.{option_map}
 use Rattle.elf32.specs.declared.segments.Segment.{Segment}
 use Rattle.memory_map.specs.Part.{Part}
 use Rattle.memory_map.specs.Cells.{Map, Cell, can, read, write, cells_from, filled, byte_at}
-use Rattle.memory_map.specs.Heaps.{heap_size}
+use Rattle.memory_map.specs.Heaps.{heap_size, is_in_span}
 use Rattle.memory_map.specs.declared.heap.Heap.{Heap}
 
 -- the cells of all parts
@@ -37,10 +37,6 @@ first_cell parts address = option_map (λ p. cell_in p address) (find (λ p. hol
 -- the address after a part's last
 abbrev pub end_of : Part → ℕ
 end_of p = p.base + length p.bytes
-
--- whether an address is one of so many from another up
-abbrev pub is_among : ℕ → ℕ → ℕ → Bool
-is_among address len q = nat_le address q && nat_lt (q - address) len
 
 -- a part with bytes from an address up
 abbrev pub overwritten : Part → ℕ → List ℕ → Part
@@ -104,7 +100,7 @@ cell_with byte (Some cell) = Some (record { byte = byte; rights = cell.rights })
 
 -- what the cell at the address `q` becomes by a write of bytes from `address` up
 abbrev pub cell_after : ℕ → List ℕ → ℕ → Option Cell → Option Cell
-cell_after address bytes q cell = if is_among address (length bytes) q then cell_with (slice_index bytes (q - address)) cell else cell
+cell_after address bytes q cell = if is_in_span address (length bytes) q then cell_with (slice_index bytes (q - address)) cell else cell
 
 -- cells before and after bytes are written from an address up, each of which may be written
 pub record Overwrites (old new : ℕ → Option Cell) (address : ℕ) (bytes : List ℕ) : Type 0 where

@@ -11,8 +11,7 @@ use Rattle.term_model.specs.Tree.{Tree, Const}
 use Rattle.term_model.specs.Value.{val}
 use Rattle.memory_map.specs.Cells.{Map, Cell, can, read, write, first_without, byte_of_cell, byte_at, next_address, with_byte, placed}
 use Rattle.memory_map.specs.declared.heap.Heap.{Heap}
-use Rattle.memory_map.specs.Heaps.{heap_cell, with_break}
-use Rattle.memory_map.specs.Layout.{is_among}
+use Rattle.memory_map.specs.Heaps.{heap_cell, with_break, is_in_span}
 use Rattle.memory_map.proofs.Heaps.{get-with_break}
 use Rattle.rv_machine.specs.State.{State, reg, written}
 use Rattle.rv_machine.specs.Calls.{Answers, Moves, Exits, if_none, break_reply, reply_to}
@@ -163,8 +162,8 @@ pub break_valued : (image : Map) (bytes : ℕ → Tree) (y : List ℕ) (m : Map)
 break_valued image bytes y m old new h = record {
   at = λ q.
       get-with_break m old new q
-      ∙ ap (λ o. cond (is_among new (old - new) q) None (cond (is_among old (new - old) q) (Some heap_cell) o)) (h.at q)
-      ∙ break_by (is_among new (old - new) q) (is_among old (new - old) q) (bytes q) y (get image q)
+      ∙ ap (λ o. cond (is_in_span new (old - new) q) None (cond (is_in_span old (new - old) q) (Some heap_cell) o)) (h.at q)
+      ∙ break_by (is_in_span new (old - new) q) (is_in_span old (new - old) q) (bytes q) y (get image q)
       ∙ ap (cell_with (val (zero_between bytes old new q) y)) (sym (get-with_break image old new q));
 }
 
@@ -199,7 +198,7 @@ choose P false t u p q = q
 
 -- so does memory as the break moves
 pub zero_keeps : (P : Tree → Type 0) (bytes : ℕ → Tree) (old new : ℕ) → P (Const 0) → ((q : ℕ) → P (bytes q)) → (q : ℕ) → P (zero_between bytes old new q)
-zero_keeps P bytes old new z h q = choose P (is_among old (new - old) q || is_among new (old - new) q) (Const 0) (bytes q) z (h q)
+zero_keeps P bytes old new z h q = choose P (is_in_span old (new - old) q || is_in_span new (old - new) q) (Const 0) (bytes q) z (h q)
 
 -- so does memory
 pub put_keeps : (P : Tree → Type 0) (bytes : ℕ → Tree) (a : ℕ) (ts : List Tree) → ((q : ℕ) → P (bytes q)) → Each P ts → (q : ℕ) → P (put_trees bytes a ts q)

@@ -10,7 +10,7 @@ use Rattle.rv_decode.specs.declared.instr.Instr.{Instr}
 use Rattle.rv_decode.specs.declared.instr.Instr.TheVariants.{Lui, Auipc, Jal, Jalr, Branch, Load, Store, AluImm, AluReg, Fence, Ecall, Ebreak}
 use Rattle.rv_decode.specs.declared.instr.Width.{Width}
 use Rattle.memory_map.specs.Cells.{read, write, first_without}
-use Rattle.rv_machine.specs.State.{State, Next, Goes, Ends, Stepped, reg, write_reg, at, following, bits, trap, no_call, event_of}
+use Rattle.rv_machine.specs.State.{State, Next, Goes, Ends, StepResult, reg, write_reg, at, following, bits, trap, no_call, event_of}
 use Rattle.rv_machine.specs.Calls.{Reply, Answers, Moves, Breaks, Exits, reply_to}
 use Rattle.rv_machine.specs.Effects.{even, jump, exit, taken, size_of, after_load, after_store, after_call, address_of, effect}
 use Rattle.replay_law.proofs.Agreeing.{HaveSameRights, first_same, reply_same}
@@ -63,7 +63,7 @@ IsPinned s r (Fence word) = Unit {0}
 IsPinned s r Ebreak = Unit {0}
 
 -- two steps that look the same
-pub record LookSame (a b : Stepped) : Type 0 where
+pub record LookSame (a b : StepResult) : Type 0 where
   pub event : b.event ≡ a.event
   pub next : Looks b.next a.next
 

@@ -13,8 +13,7 @@ use Rattle.term_model.specs.Tree.{Tree, Const, Input}
 use Rattle.elf32.specs.declared.segments.Segment.{Segment}
 use Rattle.memory_map.specs.Cells.{Map, next_address, byte_at, start_map}
 use Rattle.memory_map.specs.declared.heap.Heap.{Heap}
-use Rattle.memory_map.specs.Heaps.{with_break, start_heap}
-use Rattle.memory_map.specs.Layout.{is_among}
+use Rattle.memory_map.specs.Heaps.{with_break, start_heap, is_in_span}
 use Rattle.rv_machine.specs.State.{following, bits, start_registers}
 use Rattle.rv_machine.specs.Calls.{Reply, Answers, Moves, Breaks, Exits, reply_to}
 use Rattle.replay_law.specs.Making.{Making}
@@ -60,7 +59,7 @@ put_trees bytes address (t ∷ ts) = put_trees (with_tree bytes address t) (next
 
 -- bytes as the break moves: those that enter memory are zero; those that leave it have no cell, and are zero as well
 abbrev pub zero_between : (ℕ → Tree) → ℕ → ℕ → ℕ → Tree
-zero_between bytes old new q = if is_among old (new - old) q || is_among new (old - new) q then Const 0 else bytes q
+zero_between bytes old new q = if is_in_span old (new - old) q || is_in_span new (old - new) q then Const 0 else bytes q
 
 -- so many bytes of the input from a place on
 unfoldable pub input_terms : ℕ → ℕ → List Tree

@@ -15,7 +15,7 @@ use Rattle.rv_event.specs.declared.event.TrapKind.TheVariants as traps
 use Rattle.rv_event.specs.declared.event.End.TheVariants as ends
 use Rattle.memory_map.specs.Cells.{Map, execute, read, write, first_without, byte_at, half_at, word_at, placed}
 use Rattle.memory_map.specs.Heaps.{with_break}
-use Rattle.rv_machine.specs.State.{State, Next, Goes, Ends, Stepped, reg, write_reg, at, following, bits, no_call, event_of, trap}
+use Rattle.rv_machine.specs.State.{State, Next, Goes, Ends, StepResult, reg, write_reg, at, following, bits, no_call, event_of, trap}
 use Rattle.rv_machine.specs.Calls.{Reply, Answers, Moves, Breaks, Exits, reply_to}
 
 -- an instruction that writes a register and goes on to the next
@@ -102,11 +102,11 @@ after_call input s (Exits code) = exit s.pc code
 -- ---- the instructions
 
 -- an event without data address or call
-abbrev pub plain : State → ℕ → Next → Stepped
+abbrev pub plain : State → ℕ → Next → StepResult
 plain s word next = record { event = event_of s word 0 no_call kinds.Plain; next = next }
 
 -- the row of each instruction
-unfoldable pub effect : List ℕ → State → ℕ → Instr → Stepped
+unfoldable pub effect : List ℕ → State → ℕ → Instr → StepResult
 effect x s word (Lui rd imm) = plain s word (goes_on s rd (bits imm))
 effect x s word (Auipc rd imm) = plain s word (goes_on s rd ((s.pc + bits imm) % 2 ^ 32))
 effect x s word (Jal rd offset) = plain s word (jump s.pc ((s.pc + bits offset) % 2 ^ 32) (write_reg rd (following s.pc) s))
@@ -134,15 +134,15 @@ effect x s word Ecall =
 effect x s word Ebreak = plain s word (trap s.pc traps.Breakpoint 0)
 
 -- a fetched word: an instruction, or a trap where none has it
-abbrev pub executed : List ℕ → State → ℕ → Option Instr → Stepped
+abbrev pub executed : List ℕ → State → ℕ → Option Instr → StepResult
 executed x s word None = plain s word (trap s.pc traps.Illegal word)
 executed x s word (Some i) = effect x s word i
 
 -- a step, by the first of the four addresses of the word that may not be executed
-abbrev pub after_fetch : List ℕ → State → Option ℕ → Stepped
+abbrev pub after_fetch : List ℕ → State → Option ℕ → StepResult
 after_fetch x s (Some fault) = record { event = event_of s 0 0 no_call kinds.NoFetch; next = trap s.pc traps.FetchFault s.pc }
 after_fetch x s None = executed x s (word_at s.memory s.pc) (decoded (word_at s.memory s.pc))
 
 -- one step on an input
-unfoldable pub step : List ℕ → State → Stepped
+unfoldable pub step : List ℕ → State → StepResult
 step x s = after_fetch x s (first_without execute s.memory s.pc 4)

@@ -25,7 +25,7 @@ pub data Next : Type 0 where
   Ends : End → Next
 
 -- what a step gives: its event, and what comes of it
-pub record Stepped : Type 0 where
+pub record StepResult : Type 0 where
   pub event : Event
   pub next : Next
 

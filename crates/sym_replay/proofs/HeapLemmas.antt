@@ -7,10 +7,9 @@ use Rattle.std.specs.BTreeMap.{BTreeMap, get, Updates, is_at}
 use Rattle.std.specs.FinMap as finmap
 use Rattle.memory_map.specs.Cells.{Map, Cell, byte_at, byte_of_cell}
 use Rattle.memory_map.specs.declared.heap.Heap.{Heap}
-use Rattle.memory_map.specs.Heaps.{Space, heap_cell, may_break, with_break, after_break}
+use Rattle.memory_map.specs.Heaps.{Space, heap_cell, may_break, with_break, after_break, is_in_span}
 use Rattle.memory_map.proofs.Heaps.{get-with_break}
 use Rattle.term_model.specs.Tree.{Tree, Const}
-use Rattle.memory_map.specs.Layout.{is_among}
 use Rattle.sym_replay.specs.declared.state.ReplayState.{ReplayState}
 use Rattle.sym_replay.specs.States.{byte_tree, IsTermIn, IsState}
 
@@ -44,14 +43,14 @@ none_left m from to q none = by_test (nat_le from q && nat_lt q to) refl
     by_test false e = refl
 
 -- the addresses that the break moves past
-same_down : (b a q lo hi : ℕ) → a < b → lo ≡ a → hi ≡ b → (nat_le lo q && nat_lt q hi) ≡ (is_among b (a - b) q || is_among a (b - a) q)
+same_down : (b a q lo hi : ℕ) → a < b → lo ≡ a → hi ≡ b → (nat_le lo q && nat_lt q hi) ≡ (is_in_span b (a - b) q || is_in_span a (b - a) q)
 same_down b a q lo hi h e f = grind arith
 
-same_up : (b a q lo hi : ℕ) → b ≤ a → lo ≡ b → hi ≡ a → (nat_le lo q && nat_lt q hi) ≡ (is_among b (a - b) q || is_among a (b - a) q)
+same_up : (b a q lo hi : ℕ) → b ≤ a → lo ≡ b → hi ≡ a → (nat_le lo q && nat_lt q hi) ≡ (is_in_span b (a - b) q || is_in_span a (b - a) q)
 same_up b a q lo hi h e f = grind arith
 
-between : (b a q lo hi : ℕ) → lo ≡ min b a → hi ≡ max b a → (nat_le lo q && nat_lt q hi) ≡ (is_among b (a - b) q || is_among a (b - a) q)
-between b a q lo hi e f = elim (cases_lt a b) as (λ _. (nat_le lo q && nat_lt q hi) ≡ (is_among b (a - b) q || is_among a (b - a) q)) [
+between : (b a q lo hi : ℕ) → lo ≡ min b a → hi ≡ max b a → (nat_le lo q && nat_lt q hi) ≡ (is_in_span b (a - b) q || is_in_span a (b - a) q)
+between b a q lo hi e f = elim (cases_lt a b) as (λ _. (nat_le lo q && nat_lt q hi) ≡ (is_in_span b (a - b) q || is_in_span a (b - a) q)) [
   | inl down ↦ same_down b a q lo hi down (omega arith) (omega arith)
   | inr up ↦ same_up b a q lo hi up (omega arith) (omega arith)
 ]
@@ -63,8 +62,8 @@ moved_cell true false o = refl
 moved_cell false true o = refl
 moved_cell false false o = refl
 
-moved_byte : (m : Map) (b a q : ℕ) → byte_at (with_break m b a) q ≡ cond (is_among b (a - b) q || is_among a (b - a) q) 0 (byte_at m q)
-moved_byte m b a q = ap byte_of_cell (get-with_break m b a q) ∙ moved_cell (is_among b (a - b) q) (is_among a (b - a) q) (finmap.get m q)
+moved_byte : (m : Map) (b a q : ℕ) → byte_at (with_break m b a) q ≡ cond (is_in_span b (a - b) q || is_in_span a (b - a) q) 0 (byte_at m q)
+moved_byte m b a q = ap byte_of_cell (get-with_break m b a q) ∙ moved_cell (is_in_span b (a - b) q) (is_in_span a (b - a) q) (finmap.get m q)
 
 by_swept : (trees : List Tree) (m new : Map) (q : ℕ) (o n : Option ℕ) (t : Bool) → n ≡ cond t None o → byte_at new q ≡ cond t 0 (byte_at m q) → byte_tree trees new q n ≡ cond t (Const 0) (byte_tree trees m q o)
 by_swept trees m new q o n true e zero = ap (byte_tree trees new q) e ∙ ap Const zero
@@ -72,9 +71,9 @@ by_swept trees m new q None n false e same = ap (byte_tree trees new q) e ∙ ap
 by_swept trees m new q (Some u) n false e same = ap (byte_tree trees new q) e
 
 -- the tree at an address after the break has moved
-pub swept : (trees : List Tree) (m : Map) (h : Heap) (a lo hi q : ℕ) (o n : Option ℕ) → lo ≡ min h.brk a → hi ≡ max h.brk a → n ≡ cleared lo hi q o → byte_tree trees (with_break m h.brk a) q n ≡ (if is_among h.brk (a - h.brk) q || is_among a (h.brk - a) q then Const 0 else byte_tree trees m q o)
+pub swept : (trees : List Tree) (m : Map) (h : Heap) (a lo hi q : ℕ) (o n : Option ℕ) → lo ≡ min h.brk a → hi ≡ max h.brk a → n ≡ cleared lo hi q o → byte_tree trees (with_break m h.brk a) q n ≡ (if is_in_span h.brk (a - h.brk) q || is_in_span a (h.brk - a) q then Const 0 else byte_tree trees m q o)
 swept trees m h a lo hi q o n e f left =
-    by_swept trees m (with_break m h.brk a) q o n (is_among h.brk (a - h.brk) q || is_among a (h.brk - a) q)
+    by_swept trees m (with_break m h.brk a) q o n (is_in_span h.brk (a - h.brk) q || is_in_span a (h.brk - a) q)
     (left ∙ ap (λ t. cond t None o) (between h.brk a q lo hi e f)) (moved_byte m h.brk a q)
 
 -- terms that are left belong to the arena

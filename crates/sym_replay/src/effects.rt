@@ -1,6 +1,6 @@
 //! What the events of a run leave in registers and memory.
 
-ghost use Rattle.std.specs.Prelude.{◌≡◌, ◌<◌, ◌≤◌, ◌+◌, ◌-◌, ◌^◌, ℕ, List, length, IfOk, OnOk, slice_index};
+ghost use Rattle.std.specs.Prelude.{◌≡◌, ◌<◌, ◌≤◌, ◌+◌, ◌-◌, ◌^◌, ℕ, List, length, IfOk, IfSome, OnOk, slice_index};
 ghost use Rattle.rv_word.specs.declared.AluOp.TheVariants.{Add};
 ghost use Rattle.term_model.specs.declared.Op.TheVariants.{Alu};
 ghost use Rattle.term_model.specs.Tree.{Tree, Const};
@@ -9,6 +9,7 @@ ghost use Rattle.normal_form.specs.Norm.{norm};
 ghost use Rattle.normal_form.specs.Normal.{IsNormal};
 ghost use Rattle.memory_map.specs.Cells.{next_address};
 ghost use Rattle.rv_decode.specs.Rows.{IsWellFormed};
+ghost use Rattle.rv_decode.specs.Table.{decoded};
 ghost use Rattle.rv_machine.specs.State.{bits as bits_of};
 ghost use Rattle.replay_law.specs.Terms.{reg_term, put_reg, put_trees, with_tree};
 ghost use Rattle.replay_law.specs.Terms as definitions;
@@ -21,7 +22,7 @@ use crate::calls::{Reply, reply_to};
 use crate::state::ReplayState;
 use no_memory::NoMemory;
 use path_condition::byte_term;
-use rv_decode::{Instr, Width, decode};
+use rv_decode::{Instr, Width};
 use rv_event::Event;
 use rv_word::AluOp;
 use simplify::make;
@@ -105,7 +106,10 @@ impl ReplayState {
         requires byte { k < 4 }
         ensures state { OnOk result (IsState arena.new self.new) }
         ensures terms { OnOk result (terms_of arena.new self.new
-            ≡ record (terms_of arena.old self.old) { bytes = with_tree (terms_of arena.old self.old).bytes address (byte_of_term norm k (tree_of arena.old t)) }) }
+            ≡ record (terms_of arena.old self.old) {
+              bytes = with_tree (terms_of arena.old self.old).bytes address
+                  (byte_of_term norm k (tree_of arena.old t));
+            }) }
         ensures place { self.new.place ≡ self.old.place }
         ensures keeps { Extends arena.old arena.new }
     {
@@ -120,7 +124,10 @@ impl ReplayState {
         requires term { IsTermIn arena.old t }
         ensures state { OnOk result (IsState arena.new self.new) }
         ensures terms { OnOk result (terms_of arena.new self.new
-            ≡ record (terms_of arena.old self.old) { bytes = put_trees (terms_of arena.old self.old).bytes address (definitions.stored_terms norm Width.H (tree_of arena.old t)) }) }
+            ≡ record (terms_of arena.old self.old) {
+              bytes = put_trees (terms_of arena.old self.old).bytes address
+                  (definitions.stored_terms norm Width.H (tree_of arena.old t));
+            }) }
         ensures place { self.new.place ≡ self.old.place }
         ensures keeps { Extends arena.old arena.new }
     {
@@ -135,7 +142,10 @@ impl ReplayState {
         requires term { IsTermIn arena.old t }
         ensures state { OnOk result (IsState arena.new self.new) }
         ensures terms { OnOk result (terms_of arena.new self.new
-            ≡ record (terms_of arena.old self.old) { bytes = put_trees (terms_of arena.old self.old).bytes address (definitions.stored_terms norm Width.W (tree_of arena.old t)) }) }
+            ≡ record (terms_of arena.old self.old) {
+              bytes = put_trees (terms_of arena.old self.old).bytes address
+                  (definitions.stored_terms norm Width.W (tree_of arena.old t));
+            }) }
         ensures place { self.new.place ≡ self.old.place }
         ensures keeps { Extends arena.old arena.new }
     {
@@ -158,7 +168,10 @@ impl ReplayState {
         requires term { IsTermIn arena.old t }
         ensures state { OnOk result (IsState arena.new self.new) }
         ensures terms { OnOk result (terms_of arena.new self.new
-            ≡ record (terms_of arena.old self.old) { bytes = put_trees (terms_of arena.old self.old).bytes address (definitions.stored_terms norm width (tree_of arena.old t)) }) }
+            ≡ record (terms_of arena.old self.old) {
+              bytes = put_trees (terms_of arena.old self.old).bytes address
+                  (definitions.stored_terms norm width (tree_of arena.old t));
+            }) }
         ensures place { self.new.place ≡ self.old.place }
         ensures keeps { Extends arena.old arena.new }
     {
@@ -180,7 +193,11 @@ impl ReplayState {
         requires fits { self.old.place + count < 2 ^ 32 }
         ensures state { OnOk result (IsState arena.new self.new) }
         ensures terms { OnOk result (terms_of arena.new self.new
-            ≡ record (terms_of arena.old self.old) { bytes = put_trees (terms_of arena.old self.old).bytes address (definitions.input_terms self.old.place count); place = self.old.place + count }) }
+            ≡ record (terms_of arena.old self.old) {
+              bytes = put_trees (terms_of arena.old self.old).bytes address
+                  (definitions.input_terms self.old.place count);
+              place = self.old.place + count;
+            }) }
         ensures place { OnOk result (self.new.place ≡ self.old.place + count) }
         ensures keeps { Extends arena.old arena.new }
     {
@@ -391,24 +408,27 @@ impl ReplayState {
         }
     }
 
-    /// What an event leaves. An illegal word leaves all as it is.
+    /// What an event leaves, by the instruction that its word stands for. An illegal word leaves all as it is.
     #[tactic(auto, unfolding(replay_law::specs::Terms::terms_after))]
     pub(crate) fn follow_event(
         &mut self,
         arena: &mut Arena,
         n: u32,
         event: &Event,
+        instr: Option<Instr>,
     ) -> Result<(), NoMemory>
         requires state { IsState arena.old self.old }
         requires place { self.old.place ≤ n }
+        requires word { instr ≡ decoded event.now.word }
+        requires well_formed { IfSome instr IsWellFormed }
         ensures state { OnOk result (IsState arena.new self.new) }
         ensures terms { OnOk result (terms_of arena.new self.new
             ≡ definitions.terms_after norm n (terms_of arena.old self.old) event.now) }
         ensures place { OnOk result (self.new.place ≤ n) }
         ensures keeps { Extends arena.old arena.new }
     {
-        match decode(event.word) {
-            Some(instr) => self.follow(arena, n, event, instr),
+        match instr {
+            Some(row) => self.follow(arena, n, event, row),
             None => Ok(()),
         }
     }

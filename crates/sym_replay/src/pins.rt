@@ -1,6 +1,6 @@
 //! What the events of a run ask of another input.
 
-ghost use Rattle.std.specs.Prelude.{◌≡◌, ◌<◌, ◌≤◌, ◌+◌, ◌-◌, ◌^◌, ℕ, List, length, IfOk, OnOk, slice_index, if◌then◌else◌, ◌==◌, ◌++◌, []};
+ghost use Rattle.std.specs.Prelude.{◌≡◌, ◌<◌, ◌≤◌, ◌+◌, ◌-◌, ◌^◌, ℕ, List, length, IfOk, OnOk, IfSome, slice_index, if◌then◌else◌, ◌==◌, ◌++◌, []};
 ghost use Rattle.rv_word.specs.declared.AluOp.TheVariants.{Add};
 ghost use Rattle.term_model.specs.declared.Op.TheVariants.{Alu};
 ghost use Rattle.term_model.specs.Tree.{Tree, Const};
@@ -26,7 +26,7 @@ use crate::effects::bits;
 use crate::state::ReplayState;
 use no_memory::NoMemory;
 use path_condition::Conditions;
-use rv_decode::{Cond, Instr, decode};
+use rv_decode::{Cond, Instr};
 use rv_event::{Event, EventKind};
 use rv_word::{AluOp, byte_of};
 use simplify::make;
@@ -60,7 +60,8 @@ fn add_comparison(
     requires second { IsTermIn arena.old b }
     requires comparison { TakesByteNumber op (tree_of arena.old b) }
     ensures trees { OnOk result (trees_of arena.new conditions.new
-        ≡ with_conditions (trees_of arena.old conditions.old) (if holds then forms.succeeds (norm op (tree_of arena.old a) (tree_of arena.old b)) else forms.fails norm (norm op (tree_of arena.old a) (tree_of arena.old b)))) }
+        ≡ with_conditions (trees_of arena.old conditions.old) (if holds then forms.succeeds (norm op (tree_of arena.old a)
+        (tree_of arena.old b)) else forms.fails norm (norm op (tree_of arena.old a) (tree_of arena.old b)))) }
     ensures listed { Belong arena.new conditions.new }
     ensures keeps { Extends arena.old arena.new }
 {
@@ -203,7 +204,8 @@ fn add_branch(
     requires first { IsTermIn arena.old a }
     requires second { IsTermIn arena.old b }
     ensures trees { OnOk result (trees_of arena.new conditions.new
-        ≡ with_conditions (trees_of arena.old conditions.old) (if target == next then [] else branch_conditions norm cond (tree_of arena.old a) (tree_of arena.old b) (shown == target))) }
+        ≡ with_conditions (trees_of arena.old conditions.old) (if target == next then [] else branch_conditions norm cond
+        (tree_of arena.old a) (tree_of arena.old b) (shown == target))) }
     ensures listed { Belong arena.new conditions.new }
     ensures keeps { Extends arena.old arena.new }
 {
@@ -226,7 +228,8 @@ fn add_address(
     requires state { IsState arena.old state.now }
     requires register { register < 32 }
     ensures trees { OnOk result (trees_of arena.new conditions.new
-        ≡ with_conditions (trees_of arena.old conditions.old) (forms.pin norm (norm (Alu Add) (register_tree arena.old state.now register) (Const immediate)) address)) }
+        ≡ with_conditions (trees_of arena.old conditions.old) (forms.pin norm (norm (Alu Add)
+        (register_tree arena.old state.now register) (Const immediate)) address)) }
     ensures listed { Belong arena.new conditions.new }
     ensures keeps { Extends arena.old arena.new }
 {
@@ -247,7 +250,8 @@ fn add_jump(
     requires state { IsState arena.old state.now }
     requires register { register < 32 }
     ensures trees { OnOk result (trees_of arena.new conditions.new
-        ≡ with_conditions (trees_of arena.old conditions.old) (forms.target norm (norm (Alu Add) (register_tree arena.old state.now register) (Const immediate)) target)) }
+        ≡ with_conditions (trees_of arena.old conditions.old) (forms.target norm (norm (Alu Add)
+        (register_tree arena.old state.now register) (Const immediate)) target)) }
     ensures listed { Belong arena.new conditions.new }
     ensures keeps { Extends arena.old arena.new }
 {
@@ -319,34 +323,42 @@ fn add_word(
     arena: &mut Arena,
     state: &ReplayState,
     event: &Event,
+    instr: Option<Instr>,
     shown: u32,
 ) -> Result<(), NoMemory>
     requires listed { Belong arena.old conditions.old }
     requires state { IsState arena.old state.now }
+    requires word { instr ≡ decoded event.now.word }
+    requires well_formed { IfSome instr IsWellFormed }
     ensures trees { OnOk result (trees_of arena.new conditions.new
-        ≡ with_conditions (trees_of arena.old conditions.old) (fetch_conditions norm (terms_of arena.old state.now) event.now.pc event.now.word ++ instr_conditions norm (terms_of arena.old state.now) event.now shown (decoded event.now.word))) }
+        ≡ with_conditions (trees_of arena.old conditions.old) (fetch_conditions norm
+        (terms_of arena.old state.now) event.now.pc event.now.word ++ instr_conditions norm
+        (terms_of arena.old state.now) event.now shown (decoded event.now.word))) }
     ensures listed { Belong arena.new conditions.new }
     ensures keeps { Extends arena.old arena.new }
 {
     add_fetch(conditions, arena, state, event.pc, event.word)?;
-    match decode(event.word) {
-        Some(instr) => add_row(conditions, arena, state, event, shown, instr),
+    match instr {
+        Some(row) => add_row(conditions, arena, state, event, shown, row),
         None => Ok(()),
     }
 }
 
-/// Adds what an event asks, by what is shown after it: the program counter of the next event, or the value of the trap that
-/// ended the run.
+/// Adds what an event asks, by the instruction that its word stands for and by what is shown after it: the program counter of
+/// the next event, or the value of the trap that ended the run.
 #[tactic(auto, unfolding(replay_law::specs::Follow::event_conditions, replay_law::specs::Forms::with_conditions))]
 pub(crate) fn add_event(
     conditions: &mut Conditions,
     arena: &mut Arena,
     state: &ReplayState,
     event: &Event,
+    instr: Option<Instr>,
     shown: u32,
 ) -> Result<(), NoMemory>
     requires listed { Belong arena.old conditions.old }
     requires state { IsState arena.old state.now }
+    requires word { instr ≡ decoded event.now.word }
+    requires well_formed { IfSome instr IsWellFormed }
     ensures trees { OnOk result (trees_of arena.new conditions.new
         ≡ with_conditions (trees_of arena.old conditions.old) (event_conditions norm (terms_of arena.old state.now) event.now shown)) }
     ensures listed { Belong arena.new conditions.new }
@@ -354,6 +366,6 @@ pub(crate) fn add_event(
 {
     match event.kind {
         EventKind::NoFetch => Ok(()),
-        _ => add_word(conditions, arena, state, event, shown),
+        _ => add_word(conditions, arena, state, event, instr, shown),
     }
 }

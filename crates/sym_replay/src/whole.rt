@@ -16,6 +16,7 @@ use crate::state::ReplayState;
 use elf32::Image;
 use no_memory::NoMemory;
 use path_condition::Conditions;
+use rv_decode::decode;
 use rv_event::{End, Event, Transcript};
 use std::alloc::Global;
 use term_arena::Arena;
@@ -72,8 +73,9 @@ pub fn replay(
     for i in 0..events.len() {
         let event = event_at(events, i);
         let shown = shown_after(events, i, transcript.end);
-        add_event(&mut conditions, arena, &state, &event, shown)?;
-        state.follow_event(arena, transcript.n, &event)?;
+        let instr = decode(event.word);
+        add_event(&mut conditions, arena, &state, &event, instr, shown)?;
+        state.follow_event(arena, transcript.n, &event, instr)?;
     }
     Ok(conditions)
 }

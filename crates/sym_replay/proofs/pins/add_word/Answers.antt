@@ -22,10 +22,10 @@ returns-in-Some-clause-trees c =
     let old = trees_of c.args.arena.now c.args.conditions.now in
     let between = trees_of c.add_fetch.new.arena c.add_fetch.new.conditions in
     let fetch = fetch_conditions norm terms e.pc e.word in
-    let row = row_conditions norm terms e c.args.shown c.in-Some.instr in
+    let row = row_conditions norm terms e c.args.shown c.in-Some.row in
     then_ok c.add_row.result (c.add_row.ensures.trees)
     (λ h. h
-    ∙ (λ i. with_conditions between (row_conditions norm (grown i) e c.args.shown c.in-Some.instr))
+    ∙ (λ i. with_conditions between (row_conditions norm (grown i) e c.args.shown c.in-Some.row))
     ∙ ap (λ (ts : List Tree). with_conditions ts row) c.in_ok-add_fetch.ensures.trees
     ∙ sym (with_conditions-append old fetch row)
-    ∙ ap (λ (o : Option Instr). with_conditions old (fetch ++ instr_conditions norm terms e c.args.shown o)) (sym c.in-Some.is ∙ c.decode.ensures.value))
+    ∙ ap (λ (o : Option Instr). with_conditions old (fetch ++ instr_conditions norm terms e c.args.shown o)) (sym c.in-Some.is ∙ c.requires.word))
