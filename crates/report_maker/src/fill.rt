@@ -15,7 +15,7 @@ use group_model::Group;
 use narrow_solve::{first_narrow, narrow_sets};
 use std::alloc::{AllocError, Global};
 use term_arena::{Arena, Scratch};
-use wide_solve::{first_wide, wide_sets};
+use wide_solve::WideGroup;
 
 /// Puts the first bytes of a group of one place or two at its places, and their sets.
 fn fill_narrow(
@@ -73,9 +73,10 @@ fn fill_wide(
     ensures spent { IfErr result (NamesGroup arena.now mask.now budget group.now) }
 {
     let places = group.places.as_slice();
-    let first = first_wide(alloc, arena, group, mask, budget)?;
+    let wide = WideGroup::new(alloc, arena, group)?;
+    let first = wide.first(alloc, mask, budget)?;
     put(places, first.bytes.as_slice(), input);
-    let values = wide_sets(alloc, arena, group, first.bytes.as_slice())?;
+    let values = wide.sets(alloc, first.bytes.as_slice())?;
     put(places, values.as_slice(), sets);
     Ok(first.conflicts)
 }
