@@ -23,7 +23,7 @@ pub use error::ReadError;
 pub use lists::Bytes;
 pub use reader::read_report;
 pub use report::Report;
-pub use text::write_report;
+pub use text::{format_trap, format_word, write_report};
 
 #[cfg(test)]
 mod tests;

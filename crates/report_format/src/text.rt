@@ -29,7 +29,7 @@ pub fn kind_word(kind: TrapKind) -> &'static str
 }
 
 /// The eight digits of a word.
-fn format_word(alloc: Global, word: u32) -> Result<String, NoMemory>
+pub fn format_word(alloc: Global, word: u32) -> Result<String, NoMemory>
     ensures { IfOk result (λ digits. string_bytes digits ≡ word_digits word) }
 {
     hex::encode(alloc, word.to_be_bytes().as_slice())
@@ -43,7 +43,8 @@ fn format_program(alloc: Global, report: &Report) -> Result<String, NoMemory>
     format!(in alloc; "program {length} {digest}")
 }
 
-fn format_trap(alloc: Global, trap: Trap) -> Result<String, NoMemory>
+/// The line of a trap, `trap KIND PC VALUE`, without its line end.
+pub fn format_trap(alloc: Global, trap: Trap) -> Result<String, NoMemory>
     ensures { IfOk result (λ line. string_bytes line ≡ trap_line trap) }
 {
     let kind = kind_word(trap.kind);
