@@ -1,0 +1,3 @@
+pub mod SetLines
+pub mod Lines
+pub mod Failing
