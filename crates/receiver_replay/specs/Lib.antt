@@ -1,0 +1,4 @@
+pub mod Errors
+pub mod Difference
+pub mod Received
+pub mod Right

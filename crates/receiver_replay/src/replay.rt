@@ -1,0 +1,42 @@
+//! The report's input run again.
+
+ghost use Rattle.std.specs.Prelude.{◌≡◌, ◌↔◌, Err, IfErr, IsTrue};
+ghost use Rattle.rv_event.specs.declared.event.End.TheVariants as ends;
+ghost use Rattle.report_format.specs.Text.{content_of};
+ghost use Rattle.receiver_replay.specs.Received.{replayed, IsBut, NamesRule};
+
+use crate::error::ReceiveError;
+use crate::program::load;
+use report_format::Report;
+use rv_event::{End, Trap};
+use rv_machine::{Machine, Run};
+use std::alloc::Global;
+
+/// Whether a run ended by this trap.
+#[tactic(auto, using(rv_event::proofs::Derived::ends))]
+fn is_by(end: End, trap: Trap) -> bool
+    ensures { IsTrue result ↔ (end ≡ ends.Trap trap) }
+{
+    end == End::Trap(trap)
+}
+
+/// Runs a program on a report's input, for at most the report's number of steps: the number of steps
+/// and the end, which are the report's. `Differs` has line 3 where the run's end is not the report's
+/// trap, and line 4 where it is and came after fewer steps. `StillRunning`, `NoCrash` and `Spent` do
+/// not come.
+#[tactic(auto, unfolding(crate::specs::Received::replayed))]
+pub fn replay_report(alloc: Global, program: &[u8], report: &Report) -> Result<Run, ReceiveError>
+    ensures replayed { IsBut (replayed program.now (content_of report.now)) result }
+    ensures rules { IfErr result NamesRule }
+{
+    let image = load(alloc, program, report)?;
+    let mut machine = Machine::start(alloc, &image)?;
+    let run = machine.run(report.input.as_slice(), report.steps);
+    if !is_by(run.end, report.trap) {
+        return Err(ReceiveError::Differs { line: 3 });
+    }
+    if run.steps < report.steps {
+        return Err(ReceiveError::Differs { line: 4 });
+    }
+    Ok(run)
+}
