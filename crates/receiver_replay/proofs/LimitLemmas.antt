@@ -7,7 +7,7 @@ use Rattle.rv_event.specs.declared.event.Trap.{Trap}
 use Rattle.rv_event.specs.declared.transcript.Transcript.{Transcript}
 use Rattle.rv_machine.specs.State.{State, Next, Goes, Ends, start}
 use Rattle.rv_machine.specs.Effects.{step}
-use Rattle.rv_machine.specs.Trace.{Run, with_event, onward, trace_from, transcript_of, has_ended}
+use Rattle.rv_machine.specs.Trace.{Trace, with_event, onward, trace_from, transcript_of, has_ended}
 use Rattle.rv_machine.specs.Class.{in_class}
 use Rattle.input_laws.specs.Order.{first}
 use Rattle.trace_conditions.specs.Conditions.{conditions_of}
@@ -49,7 +49,7 @@ events_within (suc n) x s = by (step x s).next (λ t. events_within n x t)
     by (Goes t) all = omega (arith, all t)
     by (Ends end) all = omega arith
 
-abbrev told : List ℕ → Run → Transcript
+abbrev told : List ℕ → Trace → Transcript
 told x run = record { n = length x; events = run.events; end = run.end }
 
 pub more_limit : (program : Program) (x : List ℕ) (n m : ℕ) → n ≤ m → has_ended (transcript_of program x n).end ≡ true → transcript_of program x m ≡ transcript_of program x n

@@ -8,7 +8,7 @@ use Rattle.rv_event.specs.declared.event.End.TheVariants as ends
 use Rattle.rv_event.specs.declared.transcript.Transcript.{Transcript}
 use Rattle.rv_event.specs.Same.{same_events, same_end, same_transcript}
 use Rattle.rv_event.proofs.SameLemmas.{same_transcript-Decides}
-use Rattle.rv_machine.specs.declared.trace_from.Run.{Run}
+use Rattle.rv_machine.specs.declared.trace.Run.{Run}
 use Rattle.rv_machine.specs.State.{State, start}
 use Rattle.rv_machine.specs.Trace.{trace_from, transcript_of}
 use Rattle.report_format.specs.Text.{Content}
