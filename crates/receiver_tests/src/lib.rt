@@ -1,0 +1,5 @@
+//! Reports that are received: run again, and made anew.
+#![tactic(auto)]
+
+#[cfg(test)]
+mod tests;
