@@ -26,7 +26,7 @@ trapped end trap is = subst IsTrapped (sym is) tt
 pub crash : (program : Program) (limit : ℕ) (x : List ℕ) (trap : Trap) → All (λ byte. byte < 256) x → (transcript_of program x limit).end ≡ ends.Trap trap → IsCrash program limit x (transcript_of program x limit)
 crash program limit x trap low end = record {
   input = record { long = sym (length_told program limit x (transcript_of program x limit) refl); in_range = low };
-  trace_from = refl;
+  trace = refl;
   trapped = trapped (transcript_of program x limit).end trap end;
 }
 

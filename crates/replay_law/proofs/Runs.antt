@@ -188,7 +188,7 @@ pub conditions_lawful : {made : Making} {IsMade : Tree → Type 0} → IsMaker m
 unfolding in_class
 conditions_lawful {made} m equal same program limit x y run h c iy =
     let Law : Transcript → Type 0 = λ t. IsInput t.n x → IsInput t.n y → IsTrapped t.end → Hold (conditions made program t) y ↔ (transcript_of program y limit ≡ t) in
-    let law = subst Law (sym c.trace_from) (traced_lawful m equal program limit x y h) c.input iy c.trapped in
+    let law = subst Law (sym c.trace) (traced_lawful m equal program limit x y h) c.input iy c.trapped in
     let test = same (transcript_of program y limit) run in
     (λ k. test.1 (law.0 k), λ k. law.1 (test.0 k))
 
@@ -225,4 +225,4 @@ traced_proper {made} {IsMade} m c equal itself program limit x h ix t =
 pub conditions_proper : {made : Making} {IsMade : Tree → Type 0} → IsMaker made IsMade → IsCarefulMaker made IsMade → FindsEqual → ((t : Tree) → same_tree t t ≡ true) → (program : Program) (limit : ℕ) (x : List ℕ) (run : Transcript) → IsProgram program → IsCrash program limit x run → AreProper run.n (conditions made program run)
 conditions_proper {made} m c equal itself program limit x run h k =
     let Law : Transcript → Type 0 = λ t. IsInput t.n x → IsTrapped t.end → AreProper t.n (conditions made program t) in
-    subst Law (sym k.trace_from) (traced_proper m c equal itself program limit x h) k.input k.trapped
+    subst Law (sym k.trace) (traced_proper m c equal itself program limit x h) k.input k.trapped

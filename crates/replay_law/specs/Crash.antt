@@ -25,7 +25,7 @@ IsTrapped ends.Limit = ⊥
 -- what the run of a program on an input x tells, for at most `limit` steps, where a trap ended it
 pub record IsCrash (program : Program) (limit : ℕ) (x : List ℕ) (run : Transcript) : Type 0 where
   pub input : IsInput run.n x
-  pub trace_from : run ≡ transcript_of program x limit
+  pub trace : run ≡ transcript_of program x limit
   pub trapped : IsTrapped run.end
 
 -- a truth term whose constants are words, and which reads some place, and only places below n

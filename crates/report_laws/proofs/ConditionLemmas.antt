@@ -29,7 +29,7 @@ class_by_conditions law program limit x t is made y a =
 -- they hold of the traced input
 pub traced_holds : ClassLaw → (program : Program) (limit : ℕ) (x : List ℕ) (t : Transcript) → IsProgram program → IsCrash program limit x t → Hold (conditions_of program t) x
 traced_holds law program limit x t is made =
-    (class_by_conditions law program limit x t is made x made.input).0 (traced_is_member program limit t x (sym made.trace_from))
+    (class_by_conditions law program limit x t is made x made.input).0 (traced_is_member program limit t x (sym made.trace))
 
 -- the law that conditions are proper
 abbrev pub ProperLaw : Type 0

@@ -32,7 +32,7 @@ module _ (class : ClassLaw) (proper : ProperLaw) (program : Program) (seed limit
   comes_first =
       let a : IsInput t.n x = crash.input in
       let P : ℕ → Type 0 = λ n. IsFirst n (mask seed n) (in_class program limit t) (first_input program seed limit t) in
-      subst P a.long (first_of_length program seed limit x t a.in_range (sym crash.trace_from) (sym a.long))
+      subst P a.long (first_of_length program seed limit x t a.in_range (sym crash.trace) (sym a.long))
 
   exact : IsByConditions t.n (in_class program limit t) (conditions_of program t)
   exact = class_by_conditions class program limit x t is crash

@@ -57,8 +57,8 @@ some_events (suc limit) x s trapped = omega arith
 pub crash_has_events : (program : Program) (limit : ℕ) (x : List ℕ) (t : Transcript) → IsCrash program limit x t → 0 < length t.events
 unfolding transcript_of
 crash_has_events program limit x t crash =
-    subst (λ (run : Transcript). 0 < length run.events) (sym crash.trace_from)
-    (some_events limit x (start program.entry program.segments) (subst (λ (run : Transcript). IsTrapped run.end) crash.trace_from crash.trapped))
+    subst (λ (run : Transcript). 0 < length run.events) (sym crash.trace)
+    (some_events limit x (start program.entry program.segments) (subst (λ (run : Transcript). IsTrapped run.end) crash.trace crash.trapped))
 
 -- the conflicts of all groups are those of the wide ones
 pub wide_sum : (trees : List Tree) (order : List ℕ) (groups : List Group)

@@ -26,7 +26,7 @@ trapped ends.Limit trap is = cc
 
 crash : (p x : List ℕ) (limit : ℕ) (t : Transcript) (trap : Trap) → AreBytes x → t ≡ transcript_of (loaded_program p) x limit → t.end ≡ ends.Trap trap → IsCrash (loaded_program p) limit x t
 crash p x limit t trap bytes is end =
-    record { input = record { long = sym (length-told (loaded_program p) x limit t is); in_range = bytes_within x bytes }; trace_from = is; trapped = trapped t.end trap end }
+    record { input = record { long = sym (length-told (loaded_program p) x limit t is); in_range = bytes_within x bytes }; trace = is; trapped = trapped t.end trap end }
 
 -- the program of the file's image
 same_program : (image : Image) (p : List ℕ) → image.entry ≡ (loaded_program p).entry → image.segments ≡ (loaded_program p).segments → program_of image ≡ loaded_program p
