@@ -6,7 +6,7 @@ use Rattle.std.specs.FinMap.{get}
 use Rattle.elf32.specs.declared.segments.Segment.{Segment}
 use Rattle.memory_map.specs.Part.{Part}
 use Rattle.memory_map.specs.Cells.{Cell, cells_from, stack_cells, start_map}
-use Rattle.memory_map.specs.Layout.{holds, cell_in, first_cell, end_of, part_of, IsLaidOut, IsHeldAt}
+use Rattle.memory_map.specs.Layout.{contains, cell_in, first_cell, end_of, part_of, IsLaidOut, IsHeldAt}
 use Rattle.memory_map.proofs.Places.{held, none_found, first_cell_cons, part_of_others, chosen}
 use Rattle.memory_map.proofs.Maps.{get_map, start_is}
 use Rattle.memory_map.proofs.Starts.{laid_out_start, filled_size}
@@ -26,7 +26,7 @@ start_cell stack ss q is = ap (λ m. get m q) (sym (start_is stack ss is.cells))
 laid_out : (stack : Part) (ss : List Segment) → IsStack stack → AreLoaded ss → IsLaidOut stack (map part_of ss)
 laid_out stack ss is loaded = laid_out_start stack ss loaded.sized loaded.apart loaded.off_stack is.base is.size
 
-held_from : (p : Part) (a : ℕ) → p.base ≤ a → a < end_of p → holds p a ≡ true
+held_from : (p : Part) (a : ℕ) → p.base ≤ a → a < end_of p → contains p a ≡ true
 held_from p a h l = grind arith
 
 -- ---- the stack
@@ -34,7 +34,7 @@ held_from p a h l = grind arith
 same_cell : (b r c s : ℕ) → b ≡ c → r ≡ s → (let x : Cell = record { byte = b; rights = r } in x) ≡ record { byte = c; rights = s }
 same_cell b r c s e f = (λ i. record { byte = e i; rights = f i })
 
-stack_here : (stack : Part) (a : ℕ) → IsStack stack → IsOnStack a → holds stack a ≡ true
+stack_here : (stack : Part) (a : ℕ) → IsStack stack → IsOnStack a → contains stack a ≡ true
 stack_here stack a is on = held_from stack a (omega (arith, is.base, on.from)) (omega (arith, is.base, is.size, on.below))
 
 on_stack : (stack : Part) (ss : List Segment) (a : ℕ) → IsStack stack → IsOnStack a → get (start_map ss) a ≡ Some stack_cell
@@ -57,7 +57,7 @@ byte_filled bs k n l = elim (cases_lt k (length bs)) as (λ _. get_or (bs ++ rep
 cell_filled : (s : Segment) (a : ℕ) → length s.bytes ≤ s.size → IsIn s a → cell_in (part_of s) a ≡ segment_cell s a
 cell_filled s a l on = same_cell _ _ _ _ (byte_filled s.bytes (a - s.base) (s.size - length s.bytes) (omega (arith, on.from, on.below))) refl
 
-segment_here : (s : Segment) (a : ℕ) → length s.bytes ≤ s.size → IsIn s a → holds (part_of s) a ≡ true
+segment_here : (s : Segment) (a : ℕ) → length s.bytes ≤ s.size → IsIn s a → contains (part_of s) a ≡ true
 segment_here s a l on = held_from (part_of s) a on.from (omega (arith, on.below, filled_size s l))
 
 in_segment : (stack : Part) (ss : List Segment) (i a : ℕ) (d : Segment) → IsStack stack → AreLoaded ss → i < length ss → IsIn (get_or ss i d) a → get (start_map ss) a ≡ Some (segment_cell (get_or ss i d) a)
@@ -67,30 +67,30 @@ in_segment stack ss i a d is loaded l on =
     let fits : length s.bytes ≤ s.size = (loaded.sized i d l).held in
     let len : length (map part_of ss) ≡ length ss = length-map ss part_of in
     let at : (e : Part) → get_or (map part_of ss) i e ≡ p = λ e. get_or-map part_of ss i d e l in
-    let here : holds p a ≡ true = segment_here s a fits on in
-    let held_at : IsHeldAt (map part_of ss) a i = record { below = omega (arith, len); here = λ e. ap (λ (x : Part). holds x a) (at e) ∙ here } in
+    let here : contains p a ≡ true = segment_here s a fits on in
+    let held_at : IsHeldAt (map part_of ss) a i = record { below = omega (arith, len); here = λ e. ap (λ (x : Part). contains x a) (at e) ∙ here } in
     let part = part_of_others stack (map part_of ss) a i p (laid_out stack ss is loaded) held_at (sym (at p)) in
     start_cell stack ss a is ∙ part.found a here ∙ ap Some (cell_filled s a fits on)
 
 -- ---- elsewhere
 
-in_range : (s : Segment) (a : ℕ) → length s.bytes ≤ s.size → holds (part_of s) a ≡ true → IsIn s a
+in_range : (s : Segment) (a : ℕ) → length s.bytes ≤ s.size → contains (part_of s) a ≡ true → IsIn s a
 in_range s a l h = (let b = held (part_of s) a h in record { from = b.0; below = omega (arith, b.1, filled_size s l) })
 
-no_cell : (p : Part) (a : ℕ) → (holds p a ≡ true → ⊥) → holds p a ≡ false
-no_cell p a h = elim (cases_Bool (holds p a)) [ inl holding ↦ absurd (h holding) | inr missing ↦ missing ]
+no_cell : (p : Part) (a : ℕ) → (contains p a ≡ true → ⊥) → contains p a ≡ false
+no_cell p a h = elim (cases_Bool (contains p a)) [ inl holding ↦ absurd (h holding) | inr missing ↦ missing ]
 
 elsewhere : (stack : Part) (ss : List Segment) (a : ℕ) → IsStack stack → AreLoaded ss → ((i : ℕ) (d : Segment) → i < length ss → IsIn (get_or ss i d) a → ⊥) → (IsOnStack a → ⊥) → get (start_map ss) a ≡ None
 elsewhere stack ss a is loaded out off =
     let len : length (map part_of ss) ≡ length ss = length-map ss part_of in
-    let off_stack : holds stack a ≡ false = no_cell stack a (λ h. (let b = held stack a h in off (record { from = omega (arith, b.0, is.base); below = omega (arith, b.1, is.base, is.size) }))) in
+    let off_stack : contains stack a ≡ false = no_cell stack a (λ h. (let b = held stack a h in off (record { from = omega (arith, b.0, is.base); below = omega (arith, b.1, is.base, is.size) }))) in
     start_cell stack ss a is
     ∙ first_cell_cons stack (map part_of ss) a
     ∙ ap (λ t. chosen t (cell_in stack a) (first_cell (map part_of ss) a)) off_stack
     ∙ none_found (map part_of ss) a (λ k e l.
     let d : Segment = record { base = 0; size = 0; rights = 0; bytes = [] } in
     let within : k < length ss = omega (arith, len) in
-    ap (λ (x : Part). holds x a) (get_or-map part_of ss k d e within)
+    ap (λ (x : Part). contains x a) (get_or-map part_of ss k d e within)
     ∙ no_cell (part_of (get_or ss k d)) a (λ h. out k d within (in_range (get_or ss k d) a (loaded.sized k d within).held h)))
 
 -- no segment, and not the stack, has an address from 2 ^ 32 on

@@ -9,7 +9,7 @@ use Rattle.memory_map.specs.Part.{Part}
 use Rattle.memory_map.specs.Cells.{Map, Cell}
 use Rattle.memory_map.specs.Heaps.{Space, heap_size, heap_cell, with_zeros, without_cells, with_break, may_break, after_break, is_in_span}
 use Rattle.memory_map.specs.declared.heap.Heap.{Heap}
-use Rattle.memory_map.specs.Layout.{map_of, holds, cell_in, first_cell, end_of, resized, IsLaidOut, IsHeapPart, IsHeap, HasHeap}
+use Rattle.memory_map.specs.Layout.{map_of, contains, cell_in, first_cell, end_of, resized, IsLaidOut, IsHeapPart, IsHeap, HasHeap}
 use Rattle.memory_map.proofs.Places.{chosen, first_cell_cons, none_found, not_held_below, not_held_above}
 use Rattle.memory_map.proofs.Maps.{key_eq, get_map}
 
@@ -56,7 +56,7 @@ or_else None o = o
 or_else (Some c) o = Some c
 
 abbrev one : Part → ℕ → Option Cell
-one w q = chosen (holds w q) (cell_in w q) None
+one w q = chosen (contains w q) (cell_in w q) None
 
 shift : (h : Bool) (c : Cell) (o v : Option Cell) → chosen h c (or_else o v) ≡ or_else (chosen h c o) v
 shift true c o v = refl
@@ -69,8 +69,8 @@ last_cell (x ∷ []) zero w q e = first_cell_cons w [] q
 last_cell (x ∷ y ∷ ps) zero w q e = absurd (omega arith)
 last_cell (x ∷ ps) (suc i) w q e =
     first_cell_cons x (set ps i w) q
-    ∙ ap (chosen (holds x q) (cell_in x q)) (last_cell ps i w q (omega arith))
-    ∙ shift (holds x q) (cell_in x q) (first_cell (take i ps) q) (one w q)
+    ∙ ap (chosen (contains x q) (cell_in x q)) (last_cell ps i w q (omega arith))
+    ∙ shift (contains x q) (cell_in x q) (first_cell (take i ps) q) (one w q)
     ∙ ap (λ o. or_else o (one w q)) (sym (first_cell_cons x (take i ps) q))
 
 resized_length : (bs : List ℕ) (n : ℕ) → length (take n bs ++ replicate (n - length bs) 0) ≡ n
@@ -107,7 +107,7 @@ stays_below old new q o h l = grind (arith, common_steps)
 stays_above : (old new q : ℕ) (o : Option Cell) → old ≤ q → new ≤ q → cell_moved old new q o ≡ o
 stays_above old new q o h l = grind (arith, common_steps)
 
-not_there : (w : Part) (q : ℕ) → holds w q ≡ false → one w q ≡ None
+not_there : (w : Part) (q : ℕ) → contains w q ≡ false → one w q ≡ None
 not_there w q h = ap (λ t. chosen t (cell_in w q) None) h
 
 -- where no other part has a cell
@@ -118,7 +118,7 @@ in_heap o p n q is none =
     ∙ ap (cell_moved (end_of p) (p.base + n) q) (sym (ap (λ x. or_else x (one p q)) none))
 
 -- where neither part has a cell
-off_heap : (o : Option Cell) (p : Part) (n q : ℕ) → holds (resized p n) q ≡ false → holds p q ≡ false → cell_moved (end_of p) (p.base + n) q (or_else o (one p q)) ≡ or_else o (one p q) → or_else o (one (resized p n) q) ≡ cell_moved (end_of p) (p.base + n) q (or_else o (one p q))
+off_heap : (o : Option Cell) (p : Part) (n q : ℕ) → contains (resized p n) q ≡ false → contains p q ≡ false → cell_moved (end_of p) (p.base + n) q (or_else o (one p q)) ≡ or_else o (one p q) → or_else o (one (resized p n) q) ≡ cell_moved (end_of p) (p.base + n) q (or_else o (one p q))
 off_heap o p n q h l same = ap (or_else o) (not_there (resized p n) q h ∙ sym (not_there p q l)) ∙ sym same
 
 resized_end : (p : Part) (n : ℕ) → end_of (resized p n) ≡ p.base + n
@@ -140,8 +140,8 @@ abbrev last_of : List Part → Part → Part
 last_of ps d = get_or ps (length ps - 1) d
 
 -- no other part has an address where the heap may be
-others_off : (stack : Part) (ps : List Part) (h : Heap) (q k : ℕ) (d : Part) → IsLaidOut stack ps → IsHeap stack ps h → h.start ≤ q → q < h.start + heap_size → k < length ps → holds (get_or (stack ∷ ps) k d) q ≡ false
-others_off stack ps h q zero d laid is from below l = elim is.off_stack as (λ _. holds stack q ≡ false) [ inl under ↦ not_held_below stack q (omega arith) | inr over ↦ not_held_above stack q (omega arith) ]
+others_off : (stack : Part) (ps : List Part) (h : Heap) (q k : ℕ) (d : Part) → IsLaidOut stack ps → IsHeap stack ps h → h.start ≤ q → q < h.start + heap_size → k < length ps → contains (get_or (stack ∷ ps) k d) q ≡ false
+others_off stack ps h q zero d laid is from below l = elim is.off_stack as (λ _. contains stack q ≡ false) [ inl under ↦ not_held_below stack q (omega arith) | inr over ↦ not_held_above stack q (omega arith) ]
 others_off stack ps h q (suc k) d laid is from below l =
     let base : (last_of ps d).base ≡ h.start = (is.last d).base in
     let before : end_of (get_or ps k d) ≤ (last_of ps d).base = laid.ascending k (length ps - 1) d (omega arith) (omega arith) in
@@ -151,7 +151,7 @@ others_none : (stack : Part) (ps : List Part) (h : Heap) (q : ℕ) → IsLaidOut
 others_none stack ps h q laid is from below =
     none_found (take (length ps) (stack ∷ ps)) q (λ k d l.
     let within : k < length ps = omega (arith, l, length-take (length ps) (stack ∷ ps)) in
-    ap (λ x. holds x q) (get_or-take (length ps) (stack ∷ ps) k d within) ∙ others_off stack ps h q k d laid is from below within)
+    ap (λ x. contains x q) (get_or-take (length ps) (stack ∷ ps) k d within) ∙ others_off stack ps h q k d laid is from below within)
 
 less_one : (n : ℕ) → n ≡ suc n - 1
 less_one n = omega arith

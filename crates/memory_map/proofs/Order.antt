@@ -6,7 +6,7 @@ use Rattle.std.proofs.lemmas.List.{get_or-set_same, get_or-set_other}
 use Rattle.std.specs.List.Sorted.{IsNonDecreasingBy, IsPartitionPoint}
 use Rattle.std.proofs.lemmas.List.Sorted.{IsNonDecreasingBy-from_all_adjacent}
 use Rattle.memory_map.specs.Part.{Part}
-use Rattle.memory_map.specs.Layout.{holds, first_cell, end_of, IsLaidOut}
+use Rattle.memory_map.specs.Layout.{contains, first_cell, end_of, IsLaidOut}
 use Rattle.memory_map.proofs.Places.{Ascending, not_held_above, not_held_below, none_found}
 
 below : (p q : Part) → end_of p ≤ q.base → p.base ≤ q.base
@@ -22,11 +22,11 @@ past : (p q : Part) (a : ℕ) → end_of p ≤ q.base → q.base ≤ a → end_o
 past p q a h l = omega arith
 
 -- every part lies past the address, or ends at or below it
-pub none_at_point : (ps : List Part) (a i : ℕ) → Ascending ps → IsPartitionPoint (λ p. leb p.base a ≡ true) (λ p. leb p.base a ≡ false) ps i → i ≤ length ps → ((d : Part) → 0 < i → holds (get_or ps (i - 1) d) a ≡ false) → first_cell ps a ≡ None
+pub none_at_point : (ps : List Part) (a i : ℕ) → Ascending ps → IsPartitionPoint (λ p. leb p.base a ≡ true) (λ p. leb p.base a ≡ false) ps i → i ≤ length ps → ((d : Part) → 0 < i → contains (get_or ps (i - 1) d) a ≡ false) → first_cell ps a ≡ None
 none_at_point ps a i up point within last =
-    none_found ps a (λ k d l. elim (cases_lt k i) as (λ _. holds (get_or ps k d) a ≡ false) [
-      | inl less ↦ elim (eq-or-lt_of_le (lowered k i less)) as (λ _. holds (get_or ps k d) a ≡ false) [
-        | inl same ↦ ap (λ j. holds (get_or ps j d) a) same ∙ last d (omega arith)
+    none_found ps a (λ k d l. elim (cases_lt k i) as (λ _. contains (get_or ps k d) a ≡ false) [
+      | inl less ↦ elim (eq-or-lt_of_le (lowered k i less)) as (λ _. contains (get_or ps k d) a ≡ false) [
+        | inl same ↦ ap (λ j. contains (get_or ps j d) a) same ∙ last d (omega arith)
         | inr before ↦ not_held_above (get_or ps k d) a (past (get_or ps k d) (get_or ps (i - 1) d) a (up k (i - 1) d before (omega arith)) (leb-true _ _ (point.0 (i - 1) d (omega arith) (omega arith))))
       ]
       | inr above ↦ not_held_below (get_or ps k d) a (leb-false _ _ (point.1 k d above l))

@@ -4,7 +4,7 @@ use Rattle.std.proofs.lemmas.List.{length-drop, get_or-drop}
 use Rattle.std.specs.FinMap.{get}
 use Rattle.memory_map.specs.Part.{Part}
 use Rattle.memory_map.specs.Cells.{Map, can, byte_at, byte_of_cell, half_at, word_at, ok_unless, next_address, first_without}
-use Rattle.memory_map.specs.Layout.{holds, allows, end_of, CanFrom, IsPartAt, IsRun}
+use Rattle.memory_map.specs.Layout.{contains, allows, end_of, CanFrom, IsPartAt, IsRun}
 use Rattle.memory_map.proofs.Places.{held}
 
 plus_zero : (a : ℕ) → a + 0 ≡ a
@@ -37,7 +37,7 @@ unfolding first_without
 without_here a r zero m l h = absurd (omega arith)
 without_here a r (suc n) m l h = ap (λ t. cond t (first_without r m ((a + 1) % 2 ^ 32) n) (Some a)) h
 
-pub held_more : (p : Part) (a i k : ℕ) → holds p a ≡ true → i < k → a + k ≤ end_of p → holds p (a + i) ≡ true
+pub held_more : (p : Part) (a i k : ℕ) → contains p a ≡ true → i < k → a + k ≤ end_of p → contains p (a + i) ≡ true
 held_more p a i k h l within = grind arith
 
 -- the part that holds an address has a right

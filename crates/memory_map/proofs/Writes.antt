@@ -8,7 +8,7 @@ use Rattle.memory_map.specs.Part.{Part}
 use Rattle.memory_map.specs.declared.heap.Heap.{Heap}
 use Rattle.memory_map.specs.Heaps.{Space}
 use Rattle.memory_map.specs.Cells.{Map, can, write, placed}
-use Rattle.memory_map.specs.Layout.{map_of, holds, allows, first_cell, end_of, overwritten, CanFrom, Overwrites}
+use Rattle.memory_map.specs.Layout.{map_of, contains, allows, first_cell, end_of, overwritten, CanFrom, Overwrites}
 use Rattle.memory_map.proofs.Places.{Ascending, held}
 use Rattle.memory_map.proofs.Maps.{get_map}
 use Rattle.memory_map.proofs.Order.{IsSamePlace}
@@ -25,11 +25,11 @@ pub record IsWrite (r : Bool) (old new : List Part) (a : ℕ) (bs : List ℕ) : 
 abbrev pub takes : Part → ℕ → List ℕ → Bool
 takes p a bs = allows p.rights write && nat_le (a + length bs) (end_of p)
 
-one_in : (may : Bool) (p : Part) (a n : ℕ) → holds p a ≡ true → n ≡ 1 → (may && nat_le (a + n) (end_of p)) ≡ may
+one_in : (may : Bool) (p : Part) (a n : ℕ) → contains p a ≡ true → n ≡ 1 → (may && nat_le (a + n) (end_of p)) ≡ may
 one_in may p a n here e = grind arith
 
 -- in the first part
-pub write_first : (r : Bool) (p new : Part) (ps : List Part) (a : ℕ) (bs : List ℕ) → holds p a ≡ true → end_of p ≤ 2 ^ 32 → r ≡ takes p a bs → new ≡ cond r (overwritten p a bs) p → IsWrite r (p ∷ ps) (new ∷ ps) a bs
+pub write_first : (r : Bool) (p new : Part) (ps : List Part) (a : ℕ) (bs : List ℕ) → contains p a ≡ true → end_of p ≤ 2 ^ 32 → r ≡ takes p a bs → new ≡ cond r (overwritten p a bs) p → IsWrite r (p ∷ ps) (new ∷ ps) a bs
 write_first r p new ps a bs here below is after = record {
   written = λ e.
       let both = and_parts (allows p.rights write) (nat_le (a + length bs) (end_of p)) (sym is ∙ e) in
@@ -41,7 +41,7 @@ write_first r p new ps a bs here below is after = record {
 }
 
 -- past the stack
-pub write_past : (r : Bool) (stack : Part) (ps qs : List Part) (a : ℕ) (bs : List ℕ) → holds stack a ≡ false → All (λ p. p.base < end_of stack → end_of p ≤ stack.base) ps → OnTrue r (Overwrites (first_cell ps) (first_cell qs) a bs) → OnFalse r (qs ≡ ps) → (length bs ≡ 1 → r ≡ can write (first_cell ps a)) → IsWrite r (stack ∷ ps) (stack ∷ qs) a bs
+pub write_past : (r : Bool) (stack : Part) (ps qs : List Part) (a : ℕ) (bs : List ℕ) → contains stack a ≡ false → All (λ p. p.base < end_of stack → end_of p ≤ stack.base) ps → OnTrue r (Overwrites (first_cell ps) (first_cell qs) a bs) → OnFalse r (qs ≡ ps) → (length bs ≡ 1 → r ≡ can write (first_cell ps a)) → IsWrite r (stack ∷ ps) (stack ∷ qs) a bs
 write_past r stack ps qs a bs here off written refused one = record {
   written = λ e. overwrites_past stack ps qs a bs off (OnTrue_at e written);
   refused = λ e. ap (λ x. stack ∷ x) (OnFalse_at e refused);
@@ -49,7 +49,7 @@ write_past r stack ps qs a bs here off written refused one = record {
 }
 
 -- at a place
-pub write_at_place : (r : Bool) (ps : List Part) (i : ℕ) (p new : Part) (a : ℕ) (bs : List ℕ) → Ascending ps → All (λ q. end_of q ≤ 2 ^ 32) ps → i < length ps → p ≡ get_or ps i p → holds p a ≡ true → r ≡ takes p a bs → new ≡ cond r (overwritten p a bs) p → IsWrite r ps (set ps i new) a bs
+pub write_at_place : (r : Bool) (ps : List Part) (i : ℕ) (p new : Part) (a : ℕ) (bs : List ℕ) → Ascending ps → All (λ q. end_of q ≤ 2 ^ 32) ps → i < length ps → p ≡ get_or ps i p → contains p a ≡ true → r ≡ takes p a bs → new ≡ cond r (overwritten p a bs) p → IsWrite r ps (set ps i new) a bs
 write_at_place r ps i p new a bs up within l at here is after = record {
   written = λ e.
       let both = and_parts (allows p.rights write) (nat_le (a + length bs) (end_of p)) (sym is ∙ e) in
@@ -60,7 +60,7 @@ write_at_place r ps i p new a bs up within l at here is after = record {
   one = λ e. is ∙ one_in (allows p.rights write) p a (length bs) here e ∙ sym (found_can ps a i write p up l at here);
 }
 
-place_kept : (r : Bool) (p : Part) (a : ℕ) (bs : List ℕ) → holds p a ≡ true → r ≡ takes p a bs → IsSamePlace (cond r (overwritten p a bs) p) p
+place_kept : (r : Bool) (p : Part) (a : ℕ) (bs : List ℕ) → contains p a ≡ true → r ≡ takes p a bs → IsSamePlace (cond r (overwritten p a bs) p) p
 place_kept true p a bs here is =
     let both = and_parts (allows p.rights write) (nat_le (a + length bs) (end_of p)) (sym is) in
     let b = held p a here in
@@ -70,7 +70,7 @@ place_kept true p a bs here is =
 place_kept false p a bs here is = record { base = refl; size = refl }
 
 -- a write keeps a part's place
-pub same_place : (r : Bool) (p new : Part) (a : ℕ) (bs : List ℕ) → holds p a ≡ true → r ≡ takes p a bs → new ≡ cond r (overwritten p a bs) p → IsSamePlace new p
+pub same_place : (r : Bool) (p new : Part) (a : ℕ) (bs : List ℕ) → contains p a ≡ true → r ≡ takes p a bs → new ≡ cond r (overwritten p a bs) p → IsSamePlace new p
 same_place r p new a bs here is after = subst (λ (x : Part). IsSamePlace x p) (sym after) (place_kept r p a bs here is)
 
 -- the map after a write

@@ -5,7 +5,7 @@ use Rattle.std.proofs.lemmas.List.{length-take, length-drop, get_or-take, get_or
 use Rattle.memory_map.specs.Part.{Part}
 use Rattle.memory_map.specs.Cells.{Cell, can, write}
 use Rattle.memory_map.specs.Heaps.{is_in_span}
-use Rattle.memory_map.specs.Layout.{holds, allows, cell_in, cell_with, cell_after, first_cell, end_of, overwritten, Overwrites}
+use Rattle.memory_map.specs.Layout.{contains, allows, cell_in, cell_with, cell_after, first_cell, end_of, overwritten, Overwrites}
 use Rattle.memory_map.proofs.Places.{Ascending, held, off_the_stack, chosen, first_cell_cons, ascending_tail, found_at}
 
 -- a list with another from an offset up
@@ -74,7 +74,7 @@ cell_changed p a q bs low here high =
     ∙ (λ i. cond (same_among p.base a (length bs) q low here i) (get_or bs (same_offset p.base a q low i) 0) (get_or p.bytes (q - p.base) 0)))
     ∙ by_test (is_in_span a (length bs) q) (get_or bs (q - a) 0) (get_or p.bytes (q - p.base) 0) p.rights
 
-holds_same : (p : Part) (a q : ℕ) (bs : List ℕ) → p.base ≤ a → a + length bs ≤ end_of p → holds (overwritten p a bs) q ≡ holds p q
+holds_same : (p : Part) (a q : ℕ) (bs : List ℕ) → p.base ≤ a → a + length bs ≤ end_of p → contains (overwritten p a bs) q ≡ contains p q
 holds_same p a q bs low high = ap (λ n. nat_le p.base q && nat_lt (q - p.base) n) (pasted_length p.bytes bs (a - p.base) (omega arith))
 
 merged : (t h : Bool) (b : ℕ) (c : Cell) (rest : Option Cell) → (t ≡ true → h ≡ true) → chosen h (cond t (cell b c.rights) c) rest ≡ cond t (cell_with b (chosen h c rest)) (chosen h c rest)
@@ -82,7 +82,7 @@ merged true true b c rest h = refl
 merged true false b c rest h = (let e = h refl in cc)
 merged false h b c rest l = refl
 
-among_held : (p : Part) (a n q : ℕ) → p.base ≤ a → a + n ≤ end_of p → is_in_span a n q ≡ true → holds p q ≡ true
+among_held : (p : Part) (a n q : ℕ) → p.base ≤ a → a + n ≤ end_of p → is_in_span a n q ≡ true → contains p q ≡ true
 among_held p a n q low high e = grind arith
 
 off_part : (h : Bool) (c d : Cell) (rest : Option Cell) → (h ≡ true → c ≡ d) → chosen h c rest ≡ chosen h d rest
@@ -90,11 +90,11 @@ off_part true c d rest e = ap Some (e refl)
 off_part false c d rest e = refl
 
 -- what a look-up finds first, after a write in the first part
-written_here : (p : Part) (a q : ℕ) (bs : List ℕ) (rest : Option Cell) → p.base ≤ a → a + length bs ≤ end_of p → chosen (holds (overwritten p a bs) q) (cell_in (overwritten p a bs) q) rest ≡ cell_after a bs q (chosen (holds p q) (cell_in p q) rest)
+written_here : (p : Part) (a q : ℕ) (bs : List ℕ) (rest : Option Cell) → p.base ≤ a → a + length bs ≤ end_of p → chosen (contains (overwritten p a bs) q) (cell_in (overwritten p a bs) q) rest ≡ cell_after a bs q (chosen (contains p q) (cell_in p q) rest)
 written_here p a q bs rest low high =
     ap (λ t. chosen t (cell_in (overwritten p a bs) q) rest) (holds_same p a q bs low high)
-    ∙ off_part (holds p q) (cell_in (overwritten p a bs) q) (changed p a bs q) rest (λ e. cell_changed p a q bs low (held p q e).0 high)
-    ∙ merged (is_in_span a (length bs) q) (holds p q) (get_or bs (q - a) 0) (cell_in p q) rest (among_held p a (length bs) q low high)
+    ∙ off_part (contains p q) (cell_in (overwritten p a bs) q) (changed p a bs q) rest (λ e. cell_changed p a q bs low (held p q e).0 high)
+    ∙ merged (is_in_span a (length bs) q) (contains p q) (get_or bs (q - a) 0) (cell_in p q) rest (among_held p a (length bs) q low high)
 
 -- the first part of a list
 pub written_first : (p : Part) (ps : List Part) (a q : ℕ) (bs : List ℕ) → p.base ≤ a → a + length bs ≤ end_of p → first_cell (overwritten p a bs ∷ ps) q ≡ cell_after a bs q (first_cell (p ∷ ps) q)
@@ -108,14 +108,14 @@ passed true true b c o h = (let e = h refl in cc)
 passed true false b c o h = refl
 passed false h b c o l = refl
 
-past_part : (x : Part) (ps qs : List Part) (a q : ℕ) (bs : List ℕ) → (is_in_span a (length bs) q ≡ true → holds x q ≡ false) → first_cell qs q ≡ cell_after a bs q (first_cell ps q) → first_cell (x ∷ qs) q ≡ cell_after a bs q (first_cell (x ∷ ps) q)
+past_part : (x : Part) (ps qs : List Part) (a q : ℕ) (bs : List ℕ) → (is_in_span a (length bs) q ≡ true → contains x q ≡ false) → first_cell qs q ≡ cell_after a bs q (first_cell ps q) → first_cell (x ∷ qs) q ≡ cell_after a bs q (first_cell (x ∷ ps) q)
 past_part x ps qs a q bs off e =
     first_cell_cons x qs q
-    ∙ ap (chosen (holds x q) (cell_in x q)) e
-    ∙ passed (is_in_span a (length bs) q) (holds x q) (get_or bs (q - a) 0) (cell_in x q) (first_cell ps q) off
+    ∙ ap (chosen (contains x q) (cell_in x q)) e
+    ∙ passed (is_in_span a (length bs) q) (contains x q) (get_or bs (q - a) 0) (cell_in x q) (first_cell ps q) off
     ∙ ap (cell_after a bs q) (sym (first_cell_cons x ps q))
 
-among_above : (x : Part) (a n q : ℕ) → end_of x ≤ a → is_in_span a n q ≡ true → holds x q ≡ false
+among_above : (x : Part) (a n q : ℕ) → end_of x ≤ a → is_in_span a n q ≡ true → contains x q ≡ false
 among_above x a n q h e = grind arith
 
 -- the part at a place
@@ -129,10 +129,10 @@ written_at (x ∷ ps) a (suc i) q bs p up within at low high =
     past_part x ps (set ps i (overwritten p a bs)) a q bs (among_above x a (length bs) q (omega arith))
     (written_at ps a i q bs p (ascending_tail x ps up) (omega arith) at low high)
 
-pub found_can : (ps : List Part) (a i r : ℕ) (p : Part) → Ascending ps → i < length ps → p ≡ get_or ps i p → holds p a ≡ true → can r (first_cell ps a) ≡ allows p.rights r
+pub found_can : (ps : List Part) (a i r : ℕ) (p : Part) → Ascending ps → i < length ps → p ≡ get_or ps i p → contains p a ≡ true → can r (first_cell ps a) ≡ allows p.rights r
 found_can ps a i r p up within at here = ap (can r) (found_at ps a i p up within at here)
 
-still_held : (p : Part) (a i n : ℕ) → p.base ≤ a → a + n ≤ end_of p → i < n → holds p (a + i) ≡ true
+still_held : (p : Part) (a i n : ℕ) → p.base ≤ a → a + n ≤ end_of p → i < n → contains p (a + i) ≡ true
 still_held p a i n low high l = grind arith
 
 -- a write at a place
@@ -143,7 +143,7 @@ overwrites_at ps a i bs p up within at low high below may = record {
   within = omega arith;
 }
 
-pub first_can : (p : Part) (ps : List Part) (a r : ℕ) → holds p a ≡ true → can r (first_cell (p ∷ ps) a) ≡ allows p.rights r
+pub first_can : (p : Part) (ps : List Part) (a r : ℕ) → contains p a ≡ true → can r (first_cell (p ∷ ps) a) ≡ allows p.rights r
 first_can p ps a r here = ap (can r) (first_cell_cons p ps a ∙ ap (λ t. chosen t (cell_in p a) (first_cell ps a)) here)
 
 -- a write in the first part
@@ -154,21 +154,21 @@ overwrites_first p ps a bs low high below may = record {
   within = omega arith;
 }
 
-pub past_stack : (stack : Part) (ps : List Part) (a : ℕ) → holds stack a ≡ false → first_cell (stack ∷ ps) a ≡ first_cell ps a
+pub past_stack : (stack : Part) (ps : List Part) (a : ℕ) → contains stack a ≡ false → first_cell (stack ∷ ps) a ≡ first_cell ps a
 past_stack stack ps a h = first_cell_cons stack ps a ∙ ap (λ t. chosen t (cell_in stack a) (first_cell ps a)) h
 
 abbrev IsOff : Part → Part → Type 0
 IsOff stack p = p.base < end_of stack → end_of p ≤ stack.base
 
-off_step : (stack x : Part) (ps : List Part) (q r : ℕ) → IsOff stack x → (can r (first_cell ps q) ≡ true → holds stack q ≡ false) → can r (first_cell (x ∷ ps) q) ≡ true → (t : Bool) → holds x q ≡ t → holds stack q ≡ false
+off_step : (stack x : Part) (ps : List Part) (q r : ℕ) → IsOff stack x → (can r (first_cell ps q) ≡ true → contains stack q ≡ false) → can r (first_cell (x ∷ ps) q) ≡ true → (t : Bool) → contains x q ≡ t → contains stack q ≡ false
 off_step stack x ps q r off rest e true h = (let b = held x q h in off_the_stack stack x q off b.0 b.1)
 off_step stack x ps q r off rest e false h = rest (sym (ap (can r) (past_stack x ps q h)) ∙ e)
 
 -- an address where another part has a cell is not on the stack
-off_found : (stack : Part) (ps : List Part) (q r : ℕ) → All (IsOff stack) ps → can r (first_cell ps q) ≡ true → holds stack q ≡ false
+off_found : (stack : Part) (ps : List Part) (q r : ℕ) → All (IsOff stack) ps → can r (first_cell ps q) ≡ true → contains stack q ≡ false
 off_found stack [] q r off e = cc
 off_found stack (x ∷ ps) q r off e =
-    off_step stack x ps q r (off 0 x (omega arith)) (off_found stack ps q r (λ k d l. off (suc k) d (omega arith))) e (holds x q) refl
+    off_step stack x ps q r (off 0 x (omega arith)) (off_found stack ps q r (λ k d l. off (suc k) d (omega arith))) e (contains x q) refl
 
 among_place : (a n q : ℕ) → is_in_span a n q ≡ true → (a + (q - a) ≡ q) × (q - a < n)
 among_place a n q e = grind arith

@@ -19,8 +19,8 @@ unfoldable pub map_of : List Part → Map
 map_of parts = from_entries (entries_of parts)
 
 -- whether a part has a byte at an address
-abbrev pub holds : Part → ℕ → Bool
-holds part address = nat_le part.base address && nat_lt (address - part.base) (length part.bytes)
+abbrev pub contains : Part → ℕ → Bool
+contains part address = nat_le part.base address && nat_lt (address - part.base) (length part.bytes)
 
 -- whether the bytes of a part have a right
 abbrev pub allows : ℕ → ℕ → Bool
@@ -32,7 +32,7 @@ cell_in part address = record { byte = slice_index part.bytes (address - part.ba
 
 -- the cell in the first part that holds an address
 abbrev pub first_cell : List Part → ℕ → Option Cell
-first_cell parts address = option_map (λ p. cell_in p address) (find (λ p. holds p address) parts)
+first_cell parts address = option_map (λ p. cell_in p address) (find (λ p. contains p address) parts)
 
 -- the address after a part's last
 abbrev pub end_of : Part → ℕ
@@ -84,14 +84,14 @@ part_of s = record { base = s.base; rights = s.rights; bytes = filled s; room = 
 
 -- a part that holds an address and all whose cells are what `cells` finds
 pub record IsPartAt (cells : ℕ → Option Cell) (address : ℕ) (p : Part) : Type 0 where
-  pub here : holds p address ≡ true
-  pub found : (q : ℕ) → holds p q ≡ true → cells q ≡ Some (cell_in p q)
+  pub here : contains p address ≡ true
+  pub found : (q : ℕ) → contains p q ≡ true → cells q ≡ Some (cell_in p q)
   pub within : end_of p ≤ 2 ^ 32
 
 -- the part at a place holds an address
 pub record IsHeldAt (parts : List Part) (address place : ℕ) : Type 0 where
   pub below : place < length parts
-  pub here : (d : Part) → holds (slice_index_or parts place d) address ≡ true
+  pub here : (d : Part) → contains (slice_index_or parts place d) address ≡ true
 
 -- a cell with another byte
 abbrev pub cell_with : ℕ → Option Cell → Option Cell

@@ -242,7 +242,7 @@ impl Memory {
         ensures one { length bytes.now ≡ 1 → result ≡ can write (finmap.get self.old.map address) }
         ensures after { self.new ≡ (if result then record self.old { map = placed self.old.map address bytes.now } else self.old) }
     {
-        if self.stack.holds(address) {
+        if self.stack.contains(address) {
             self.stack.write(address, bytes)
         } else {
             write_at(&mut self.regions, address, bytes)

@@ -21,7 +21,7 @@ fn place_of(regions: &[Region], address: u32) -> Option<usize>
         return None;
     }
     let place = after - 1;
-    if regions[place].holds(address) {
+    if regions[place].contains(address) {
         Some(place)
     } else {
         None
@@ -34,7 +34,7 @@ pub fn region_of<'a>(stack: &'a Region, regions: &'a [Region], address: u32) -> 
     ensures some { IfSome result (λ r. IsPartAt (first_cell (stack.now ∷ regions.now)) address r.now) }
     ensures none { IfNone result (first_cell (stack.now ∷ regions.now) address ≡ None) }
 {
-    if stack.holds(address) {
+    if stack.contains(address) {
         return Some(stack);
     }
     let place = place_of(regions, address)?;

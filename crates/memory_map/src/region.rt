@@ -3,7 +3,7 @@
 ghost use Rattle.std.specs.Prelude.{◌≡◌, ◌≤◌, ◌-◌, ◌+◌, IsTrue, IfOk, [], drop, slice_index, length, ◌&&◌, nat_le, if◌then◌else◌};
 ghost use Rattle.memory_map.specs.Cells.{write};
 ghost use Rattle.std.specs.Vec.{vec_capacity};
-ghost use Rattle.memory_map.specs.Layout.{holds, allows, overwritten, resized, end_of};
+ghost use Rattle.memory_map.specs.Layout.{contains, allows, overwritten, resized, end_of};
 
 use no_memory::NoMemory;
 use std::alloc::Global;
@@ -84,8 +84,8 @@ impl Region {
     }
 
     /// Whether the region has a byte at an address.
-    pub fn holds(&self, address: u32) -> bool
-        ensures { result ≡ holds self.now address }
+    pub fn contains(&self, address: u32) -> bool
+        ensures { result ≡ contains self.now address }
     {
         self.base <= address && ((address - self.base) as usize) < self.bytes.len()
     }
@@ -99,7 +99,7 @@ impl Region {
 
     /// The bytes from an address to the region's end.
     pub fn rest(&self, address: u32) -> &[u8]
-        requires { IsTrue (holds self.now address) }
+        requires { IsTrue (contains self.now address) }
         ensures { result.now ≡ drop (address - self.now.base) self.now.bytes }
     {
         &self.bytes[(address - self.base) as usize..]
@@ -107,7 +107,7 @@ impl Region {
 
     /// The byte at an address.
     pub fn byte(&self, address: u32) -> u8
-        requires { IsTrue (holds self.now address) }
+        requires { IsTrue (contains self.now address) }
         ensures { result ≡ slice_index self.now.bytes (address - self.now.base) }
     {
         self.bytes[(address - self.base) as usize]
@@ -116,7 +116,7 @@ impl Region {
     /// Writes bytes from an address up, where all are within the region and may be written. Else
     /// nothing changes.
     pub fn write(&mut self, address: u32, bytes: &[u8]) -> bool
-        requires { IsTrue (holds self.old address) }
+        requires { IsTrue (contains self.old address) }
         ensures written { result ≡ (allows self.old.rights write
             && nat_le (address + length bytes.now) (end_of self.old)) }
         ensures after { self.new ≡ (if result then overwritten self.old address bytes.now else self.old) }

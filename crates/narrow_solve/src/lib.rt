@@ -5,14 +5,13 @@
 
 mod trial;
 
-ghost use Rattle.std.specs.Prelude.{◌≡◌, ◌<◌, ◌≤◌, ℕ, List, [], ◌∷◌, length, map, take, slice_index, nat_lt, All};
+ghost use Rattle.std.specs.Prelude.{◌≡◌, ◌<◌, ℕ, List, length, map, take, slice_index, All};
 ghost use Rattle.term_model.specs.Words.{AreBytes};
-ghost use Rattle.term_model.specs.Conditions.{Hold, holds};
+ghost use Rattle.term_model.specs.Conditions.{Hold};
 ghost use Rattle.term_arena.specs.Trees.{trees_of};
-ghost use Rattle.input_laws.specs.Sets.{freed};
-ghost use Rattle.input_laws.specs.Narrow.{freed_beside};
 ghost use Rattle.byte_sets.specs.ByteSet.{has};
-ghost use Rattle.group_model.specs.Group.{IsGroup, HasAt, IsGroupFirst};
+ghost use Rattle.group_model.specs.Group.{HasAt, IsGroupFirst};
+ghost use Rattle.narrow_solve.specs.Narrow.{IsNarrow, AreNarrowSets};
 
 use byte_sets::ByteSet;
 use group_model::Group;
@@ -28,13 +27,9 @@ fn first_for(
     trial: &mut [u8],
     scratch: &mut Scratch,
 ) -> [u8; 2]
-    requires group { IsGroup arena.now places.now conditions.now }
-    requires some { 0 < length places.now }
-    requires narrow { length places.now ≤ 2 }
+    requires narrow { IsNarrow arena.now places.now conditions.now (length trial.old) scratch.old }
     requires masked { All (λ i. i < length mask.now) places.now }
-    requires within { All (λ i. i < length trial.old) places.now }
     requires possible { (y : List ℕ) × AreBytes y × Hold (trees_of arena.now conditions.now) y }
-    requires room { length arena.now ≤ scratch.old }
     ensures first { IsGroupFirst mask.now places.now (trees_of arena.now conditions.now) (take (length places.now) result) }
     ensures alone { length places.now ≡ 1 → slice_index result 1 ≡ 0 }
     ensures keeps { scratch.new ≡ scratch.old }
@@ -64,13 +59,9 @@ pub fn first_narrow(
     trial: &mut [u8],
     scratch: &mut Scratch,
 ) -> [u8; 2]
-    requires group { IsGroup arena.now group.now.places group.now.conditions }
-    requires some { 0 < length group.now.places }
-    requires narrow { length group.now.places ≤ 2 }
+    requires narrow { IsNarrow arena.now group.now.places group.now.conditions (length trial.old) scratch.old }
     requires masked { All (λ i. i < length mask.now) group.now.places }
-    requires within { All (λ i. i < length trial.old) group.now.places }
     requires possible { (y : List ℕ) × AreBytes y × Hold (trees_of arena.now group.now.conditions) y }
-    requires room { length arena.now ≤ scratch.old }
     ensures first { IsGroupFirst mask.now group.now.places (trees_of arena.now group.now.conditions) (take (length group.now.places) result) }
     ensures alone { length group.now.places ≡ 1 → slice_index result 1 ≡ 0 }
     ensures keeps { scratch.new ≡ scratch.old }
@@ -94,19 +85,9 @@ fn sets_for(
     trial: &mut [u8],
     scratch: &mut Scratch,
 ) -> [ByteSet; 2]
-    requires group { IsGroup arena.now places.now conditions.now }
-    requires some { 0 < length places.now }
-    requires narrow { length places.now ≤ 2 }
-    requires within { All (λ i. i < length trial.old) places.now }
+    requires narrow { IsNarrow arena.now places.now conditions.now (length trial.old) scratch.old }
     requires meets { (y : List ℕ) × HasAt places.now first y × Hold (trees_of arena.now conditions.now) y }
-    requires room { length arena.now ≤ scratch.old }
-    ensures one { length places.now ≡ 1 → (y : List ℕ) → slice_index places.now 0 < length y →
-        map has result ≡ freed (holds (trees_of arena.now conditions.now)) y (slice_index places.now 0) ∷ (λ v. nat_lt v 256) ∷ [] }
-    ensures two { length places.now ≡ 2 → (y : List ℕ) → slice_index places.now 1 < length y → HasAt places.now first y →
-        let test = holds (trees_of arena.now conditions.now) in
-        let low = slice_index places.now 0 in
-        let high = slice_index places.now 1 in
-        map has result ≡ freed test y low ∷ freed_beside test (freed test y low) y low high ∷ [] }
+    ensures sets { AreNarrowSets (trees_of arena.now conditions.now) places.now first (map has result) }
     ensures keeps { scratch.new ≡ scratch.old }
 {
     let low = places[0] as usize;
@@ -137,19 +118,9 @@ pub fn narrow_sets(
     trial: &mut [u8],
     scratch: &mut Scratch,
 ) -> [ByteSet; 2]
-    requires group { IsGroup arena.now group.now.places group.now.conditions }
-    requires some { 0 < length group.now.places }
-    requires narrow { length group.now.places ≤ 2 }
-    requires within { All (λ i. i < length trial.old) group.now.places }
+    requires narrow { IsNarrow arena.now group.now.places group.now.conditions (length trial.old) scratch.old }
     requires meets { (y : List ℕ) × HasAt group.now.places first y × Hold (trees_of arena.now group.now.conditions) y }
-    requires room { length arena.now ≤ scratch.old }
-    ensures one { length group.now.places ≡ 1 → (y : List ℕ) → slice_index group.now.places 0 < length y →
-        map has result ≡ freed (holds (trees_of arena.now group.now.conditions)) y (slice_index group.now.places 0) ∷ (λ v. nat_lt v 256) ∷ [] }
-    ensures two { length group.now.places ≡ 2 → (y : List ℕ) → slice_index group.now.places 1 < length y → HasAt group.now.places first y →
-        let test = holds (trees_of arena.now group.now.conditions) in
-        let low = slice_index group.now.places 0 in
-        let high = slice_index group.now.places 1 in
-        map has result ≡ freed test y low ∷ freed_beside test (freed test y low) y low high ∷ [] }
+    ensures sets { AreNarrowSets (trees_of arena.now group.now.conditions) group.now.places first (map has result) }
     ensures keeps { scratch.new ≡ scratch.old }
 {
     sets_for(

@@ -18,7 +18,7 @@ returns-clause-done c =
     (bytes_are_put c.as_slice-places.result.now c.args.group.now.places c.first_narrow-first.result c.put.new.list c.as_slice-places.ensures c.put.ensures.has)
     (taken_sets_are_put c.as_slice-places.result.now c.args.group.now.places c.narrow_sets-values.result c.args.sets.now c.put-2.new.list c.as_slice-places.ensures c.put-2.auto.list
     (λ k d l. rw c.requires.each (c.requires.open.below k d l)) (let few = c.requires.narrow in omega arith) c.put-2.ensures.has)
-    c.narrow_sets-values.ensures.one c.narrow_sets-values.ensures.two
+    c.narrow_sets-values.ensures.sets.one c.narrow_sets-values.ensures.sets.two
 
 pub returns-clause-sets_left : goal.returns-clause-sets_left
 returns-clause-sets_left c =
