@@ -7,9 +7,9 @@ use Rattle.clap.specs.Words.{App, Rule, Row, Kinds, first_of, matches_of, fault_
 use Rattle.clap.specs.Simple.{on_top}
 use Rattle.crash_cli.specs.declared.command.Raw.{Raw}
 use Rattle.crash_cli.specs.declared.words.Action.{Action}
-use Rattle.crash_cli.specs.declared.words.Action.TheVariants.{Make as ToMake, Run, Replay, Check, Demo}
+use Rattle.crash_cli.specs.declared.words.Action.TheVariants.{Make, Run, Replay, Check}
 use Rattle.crash_cli.specs.declared.words.Options.{Options}
-use Rattle.crash_cli.specs.declared.words.Make.{Make}
+use Rattle.crash_cli.specs.declared.words.Task.{Task as RawTask}
 
 -- ---- the command
 
@@ -103,12 +103,34 @@ pub record AreWithin (options : Options) : Type 0 where
 
 abbrev pub action_of : List ℕ → Option Action
 action_of text =
-    if bytes_eq text (codes "make") then Some ToMake
+    if bytes_eq text (codes "make") then Some Make
     else if bytes_eq text (codes "run") then Some Run
     else if bytes_eq text (codes "replay") then Some Replay
     else if bytes_eq text (codes "check") then Some Check
-    else if bytes_eq text (codes "demo") then Some Demo
     else None
+
+-- what is to be done: an action, the names of the program's file and of a second one, and the options
+pub record Task : Type 0 where
+  pub action : Action
+  pub program : List ℕ
+  pub second : List ℕ
+  pub options : Options
+
+abbrev pub task_with : Texts → Option Action → Option Options → Option Task
+task_with texts (Some action) (Some options) = Some (record { action = action; program = texts.first; second = texts.second; options = options })
+task_with texts _ _ = None
+
+abbrev pub task_in : Option Texts → Option Task
+task_in None = None
+task_in (Some texts) = task_with texts (action_of texts.action) (options_of texts)
+
+-- what the words ask for
+unfoldable pub task_of : List (List ℕ) → Option Task
+task_of words = task_in (texts_of words)
+
+-- the same of the words as they lie in memory
+abbrev pub task_value : RawTask → Task
+task_value task = record { action = task.action; program = task.program.now; second = task.second.now; options = task.options }
 
 -- a report is to be made: the names of its two files, and the options
 pub record MakeWords : Type 0 where
@@ -116,19 +138,14 @@ pub record MakeWords : Type 0 where
   pub input : List ℕ
   pub options : Options
 
--- of the actions this one is built
-abbrev pub make_with : Texts → Option Action → Option Options → Option MakeWords
-make_with texts (Some ToMake) (Some options) = Some (record { program = texts.first; input = texts.second; options = options })
-make_with texts _ _ = None
+abbrev pub make_by : Action → Task → Option MakeWords
+make_by Make task = Some (record { program = task.program; input = task.second; options = task.options })
+make_by _ task = None
 
-abbrev pub make_in : Option Texts → Option MakeWords
+abbrev pub make_in : Option Task → Option MakeWords
 make_in None = None
-make_in (Some texts) = make_with texts (action_of texts.action) (options_of texts)
+make_in (Some task) = make_by task.action task
 
 -- what the words ask for, where they ask for a report
-unfoldable pub make_of : List (List ℕ) → Option MakeWords
-make_of words = make_in (texts_of words)
-
--- the same of the words as they lie in memory
-abbrev pub make_value : Make → MakeWords
-make_value make = record { program = make.program.now; input = make.input.now; options = make.options }
+abbrev pub make_of : List (List ℕ) → Option MakeWords
+make_of words = make_in (task_of words)

@@ -1,5 +1,6 @@
 //! A crash reporter for RV32IM programs: it writes a report in which the input is replaced by the
-//! first input, in an order that a seed fixes, with the same length and the same trace.
+//! first input, in an order that a seed fixes, with the same length and the same trace. Who gets a
+//! report replays and checks it.
 //!
 //! [`tool::run_tool`] is all that the program does; `main` hands it the words after the program's
 //! name, the files of the system, and the standard streams.
@@ -9,6 +10,8 @@ pub mod answer;
 mod command;
 pub mod laws;
 mod outcome;
+mod receiver;
+mod run_text;
 mod say;
 #[cfg(test)]
 mod tests;

@@ -1,6 +1,7 @@
 //! Whole calls over files and sinks in memory. The digests are those of `sha256sum`.
 
 mod order;
+mod receiver;
 mod reports;
 mod words;
 
@@ -36,7 +37,7 @@ fn named(alloc: Global, name: &str, bytes: Vec<u8>) -> Result<NamedFile, AllocEr
     })
 }
 
-/// A folder with a program `p` and an input `x`.
+/// A folder with a program `p` and a second file `x`, an input or a report.
 fn folder(alloc: Global, program: Vec<u8>, input: Vec<u8>) -> Result<SteadyFolder, AllocError> {
     let mut files = Vec::new(alloc);
     files.push(named(alloc, "p", program)?)?;

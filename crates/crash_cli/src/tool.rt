@@ -1,48 +1,64 @@
 //! The top call: from words and files to a status, a text on out and a line on err.
 
-ghost use Rattle.std.specs.Prelude.{◌≡◌, ◌≢◌, ◌⊎◌, ℕ, ◌≤◌, List, map, length, Option, None, Some, IfSome, IfOk, IfErr};
+ghost use Rattle.std.specs.Prelude.{◌≡◌, ◌≢◌, ◌⊎◌, ℕ, ◌≤◌, List, map, length, Option, None, Some, Ok, IfSome, IfOk, IfErr};
 ghost use Rattle.std.specs.String.{string_bytes};
 ghost use Rattle.fault_io.specs.Faults.{Rose, NoFault};
-ghost use Rattle.crash_cli.specs.Refusals.{status, out_of, err_of, IsLineOf, IsGiven};
-ghost use Rattle.crash_cli.specs.Words.{make_of, make_value, AreWithin};
-ghost use Rattle.crash_cli.specs.Outcome.{told_answer, answer_to, made, outcome, transcript_under, read_of};
-ghost use Rattle.crash_cli.specs.Call.{change, Gives, TakesLine, TakesNothing, Takes, TakesPrefix, HasFault};
-ghost use Rattle.crash_cli.specs.Call.{HasNoFault, IsReadFault, IsTrueBut, IsReadBut, IsCannotRead, IsStatusBut};
-ghost use Rattle.crash_cli.specs.Call.{IsAnswer};
+ghost use Rattle.report_format.specs.Text.{Content};
+ghost use Rattle.report_format.specs.Reading.{IsTextOf};
+ghost use Rattle.receiver_replay.specs.Right.{IsRight};
+ghost use Rattle.crash_cli.specs.Refusals.{out_of, err_of, IsLineOf, IsGiven};
+ghost use Rattle.crash_cli.specs.Words.{make_of, task_of, task_value, AreWithin};
+ghost use Rattle.crash_cli.specs.Outcome.{outcome, transcript_under};
+ghost use Rattle.crash_cli.specs.Received.{IsAccepted};
+ghost use Rattle.crash_cli.specs.Answers.{IsAnswerTo, IsDone, IsAnswerOf, read_of, role_of, limit_of};
+ghost use Rattle.crash_cli.specs.Call.{change, Gives, TakesLine, TakesNothing, Takes, TakesPrefix, HasFault, HasNoFault};
+ghost use Rattle.crash_cli.specs.Call.{OfRight, IsReadFault, IsRightBut, IsReadBut, IsCannotRead, IsStatusBut, IsAnswer, IsOfFiles};
+ghost use Rattle.crash_cli.specs.Call.{IsReceived};
 
 use crate::answer::{Answer, Refusal, Role};
 use crate::command::WordsError;
 use crate::outcome::outcome;
+use crate::receiver::{check, replay, run};
 use crate::say::say;
-use crate::words::{Make, read_words};
+use crate::words::{Action, Options, Task, read_words};
 use fault_io::{Bytes, FetchFault, Fetched, Folder, Sink};
+use no_memory::NoMemory;
 use std::alloc::Global;
 
-/// The most bytes of a program's file.
-const PROGRAM_LIMIT: u32 = 16_777_216;
+/// The most bytes of a file.
+fn limit_of(role: Role) -> u32
+    ensures { result ≡ limit_of role }
+{
+    match role {
+        Role::Program => 16_777_216,
+        Role::Input => 65_536,
+        Role::Report => 8_388_608,
+    }
+}
 
-/// The most bytes of an input.
-const INPUT_LIMIT: u32 = 65_536;
+/// What an action's second file is.
+fn role_of(action: Action) -> Role
+    ensures { result ≡ role_of action }
+{
+    match action {
+        Action::Make | Action::Run => Role::Input,
+        Action::Replay | Action::Check => Role::Report,
+    }
+}
 
 /// The bytes of a file, or why there are none.
-fn read<F: Folder>(
-    alloc: Global,
-    folder: &mut F,
-    name: &str,
-    role: Role,
-    limit: u32,
-) -> Result<Bytes, Refusal>
+fn read<F: Folder>(alloc: Global, folder: &mut F, name: &str, role: Role) -> Result<Bytes, Refusal>
     ensures files { F.files folder.new ≡ F.files folder.old }
     ensures counts { F.faults folder.old ≤ F.faults folder.new }
     ensures told { IfSome (F.files folder.old) (λ held.
-        IsReadBut (read_of role limit (held name.now)) (Rose (F.faults folder.old) (F.faults folder.new)) result) }
+        IsReadBut (read_of role (held name.now)) (Rose (F.faults folder.old) (F.faults folder.new)) result) }
     ensures untold { F.files folder.old ≡ None →
         IfErr result (λ e. IsCannotRead e → Rose (F.faults folder.old) (F.faults folder.new)) }
     ensures no_usage { IfErr result (λ e. e ≢ Refusal.Usage) }
     ensures given { IfErr result IsGiven }
-    ensures within { IfOk result (λ bytes. length bytes ≤ limit) }
+    ensures within { IfOk result (λ bytes. length bytes ≤ limit_of role) }
 {
-    match folder.fetch(alloc, name, limit) {
+    match folder.fetch(alloc, name, limit_of(role)) {
         Ok(Fetched::Whole(bytes)) => Ok(bytes),
         Ok(Fetched::TooLong) => Err(Refusal::TooLong(role)),
         Ok(Fetched::Missing) => Err(Refusal::CannotRead(role)),
@@ -51,27 +67,53 @@ fn read<F: Folder>(
     }
 }
 
-/// The answer to `make`: the program is read first, and the input only where the program was read.
+/// The answer of an action to a program and a second file.
+fn answer_of(
+    alloc: Global,
+    action: Action,
+    program: &[u8],
+    options: Options,
+    second: &[u8],
+) -> Result<Answer, NoMemory>
+    requires short { length program.now ≤ limit_of Role.Program }
+    requires few { length second.now ≤ limit_of (role_of action) }
+    requires options { AreWithin options }
+    ensures answer { IfOk result (IsAnswerOf action program.now options second.now) }
+    ensures accepted { action ≡ Action.Check → IfOk result (IsAccepted program.now options second.now) }
+    ensures kind { IfOk result IsOfFiles }
+{
+    match action {
+        Action::Make => outcome(alloc, program, options, second),
+        Action::Run => run(alloc, program, options, second),
+        Action::Replay => replay(alloc, program, second),
+        Action::Check => check(alloc, program, options, second),
+    }
+}
+
+/// The answer to an action: the program is read first, and the second file only where the program
+/// was read.
 #[tactic(auto, using(crate::proofs::CallLemmas::of_files))]
-fn answer_make<F: Folder>(alloc: Global, make: &Make, folder: &mut F) -> Answer
-    requires options { AreWithin make.now.options }
+fn answer_task<F: Folder>(alloc: Global, task: &Task, folder: &mut F) -> Answer
+    requires options { AreWithin task.now.options }
     ensures files { F.files folder.new ≡ F.files folder.old }
     ensures counts { F.faults folder.old ≤ F.faults folder.new }
     ensures told { IfSome (F.files folder.old) (λ held.
-        IsTrueBut (made (make_value make.now) held) (Rose (F.faults folder.old) (F.faults folder.new)) result) }
+        IsRightBut (IsDone (task_value task.now) held) (Rose (F.faults folder.old) (F.faults folder.new)) result) }
+    ensures received { IfSome (F.files folder.old) (IsReceived (task_value task.now) result) }
     ensures untold { F.files folder.old ≡ None → IsReadFault result → Rose (F.faults folder.old) (F.faults folder.new) }
     ensures no_usage { result ≢ Answer.Refused Refusal.Usage }
     ensures given { IsAnswer result }
 {
-    let program = match read(alloc, folder, make.program, Role::Program, PROGRAM_LIMIT) {
+    let program = match read(alloc, folder, task.program, Role::Program) {
         Ok(program) => program,
         Err(refusal) => return Answer::Refused(refusal),
     };
-    let input = match read(alloc, folder, make.input, Role::Input, INPUT_LIMIT) {
-        Ok(input) => input,
+    let second = match read(alloc, folder, task.second, role_of(task.action)) {
+        Ok(second) => second,
         Err(refusal) => return Answer::Refused(refusal),
     };
-    match outcome(alloc, program.as_slice(), make.options, input.as_slice()) {
+    let (program, second) = (program.as_slice(), second.as_slice());
+    match answer_of(alloc, task.action, program, task.options, second) {
         Ok(answer) => answer,
         Err(_) => Answer::Refused(Refusal::NoMemory),
     }
@@ -82,15 +124,17 @@ fn decide<F: Folder>(alloc: Global, words: &[String], folder: &mut F) -> Answer
     ensures files { F.files folder.new ≡ F.files folder.old }
     ensures counts { F.faults folder.old ≤ F.faults folder.new }
     ensures told { IfSome (F.files folder.old) (λ held.
-        IsTrueBut (answer_to (make_of (map string_bytes words.now)) held) (Rose (F.faults folder.old) (F.faults folder.new)) result) }
+        IsRightBut (IsAnswerTo (task_of (map string_bytes words.now)) held) (Rose (F.faults folder.old) (F.faults folder.new)) result) }
+    ensures received { IfSome (task_of (map string_bytes words.now)) (λ task.
+        IfSome (F.files folder.old) (IsReceived task result)) }
     ensures untold { F.files folder.old ≡ None → IsReadFault result → Rose (F.faults folder.old) (F.faults folder.new) }
-    ensures usage { result ≡ Answer.Refused Refusal.Usage → make_of (map string_bytes words.now) ≡ None }
-    ensures words { make_of (map string_bytes words.now) ≡ None →
+    ensures usage { result ≡ Answer.Refused Refusal.Usage → task_of (map string_bytes words.now) ≡ None }
+    ensures words { task_of (map string_bytes words.now) ≡ None →
         (result ≡ Answer.Refused Refusal.Usage) ⊎ (result ≡ Answer.Refused Refusal.NoMemory) }
     ensures given { IsAnswer result }
 {
     match read_words(alloc, words) {
-        Ok(make) => answer_make(alloc, &make, folder),
+        Ok(task) => answer_task(alloc, &task, folder),
         Err(WordsError::Usage) => Answer::Refused(Refusal::Usage),
         Err(WordsError::NoMemory) => Answer::Refused(Refusal::NoMemory),
     }
@@ -112,40 +156,49 @@ pub fn run_tool<F: Folder, O: Sink, E: Sink>(
     err: &mut E,
 ) -> u8
     // Each status has its cause.
-    ensures usage { result ≡ 2 → make_of (map string_bytes words.now) ≡ None }
-    ensures words { make_of (map string_bytes words.now) ≡ None → (result ≡ 2) ⊎ (result ≡ 1) }
+    ensures usage { result ≡ 2 → task_of (map string_bytes words.now) ≡ None }
+    ensures words { task_of (map string_bytes words.now) ≡ None → (result ≡ 2) ⊎ (result ≡ 1) }
     ensures read { result ≡ 3 → F.files folder.old ≡ None → Rose (F.faults folder.old) (F.faults folder.new) }
     ensures write { result ≡ 4 → HasFault (change O.holds O.faults out.old out.new) }
-    ensures told { IfSome (told_answer (map string_bytes words.now) (F.files folder.old)) (λ answer.
-        IsStatusBut answer (Rose (F.faults folder.old) (F.faults folder.new)) (HasFault (change O.holds O.faults out.old out.new)) result) }
+    ensures told { IfSome (F.files folder.old) (λ held.
+        IsStatusBut (IsAnswerTo (task_of (map string_bytes words.now)) held) (Rose (F.faults folder.old) (F.faults folder.new)) (HasFault (change O.holds O.faults out.old out.new)) result) }
 
     // What is on out.
-    ensures text { IfSome (told_answer (map string_bytes words.now) (F.files folder.old)) (λ answer.
-        result ≡ 0 → Takes (change O.holds O.faults out.old out.new) (out_of answer)) }
-    ensures part { IfSome (told_answer (map string_bytes words.now) (F.files folder.old)) (λ answer.
-        result ≡ 4 → TakesPrefix (change O.holds O.faults out.old out.new) (out_of answer)) }
+    ensures text { IfSome (F.files folder.old) (λ held. result ≡ 0 →
+        OfRight (IsAnswerTo (task_of (map string_bytes words.now)) held)
+        (λ answer. Takes (change O.holds O.faults out.old out.new) (out_of answer))) }
+    ensures part { IfSome (F.files folder.old) (λ held. result ≡ 4 →
+        OfRight (IsAnswerTo (task_of (map string_bytes words.now)) held)
+        (λ answer. TakesPrefix (change O.holds O.faults out.old out.new) (out_of answer))) }
     ensures nothing { result ≢ 0 → result ≢ 4 → TakesNothing (change O.holds O.faults out.old out.new) }
 
     // What is on err.
     ensures quiet { result ≡ 0 → TakesNothing (change E.holds E.faults err.old err.new) }
     ensures line { result ≢ 0 → (line : List ℕ) × IsLineOf result line
         × TakesLine (change E.holds E.faults err.old err.new) line }
-    ensures line_told { IfSome (told_answer (map string_bytes words.now) (F.files folder.old)) (λ answer.
+    ensures line_told { IfSome (F.files folder.old) (λ held.
         result ≢ 0 → result ≢ 1 → result ≢ 4 → (result ≡ 3 → NoFault (F.faults folder.old) (F.faults folder.new)) →
-        TakesLine (change E.holds E.faults err.old err.new) (err_of answer)) }
+        OfRight (IsAnswerTo (task_of (map string_bytes words.now)) held)
+        (λ answer. TakesLine (change E.holds E.faults err.old err.new) (err_of answer))) }
 
     // Without want of memory and failing reads or writes: all of it is what words and files fix.
-    ensures complete { IfSome (told_answer (map string_bytes words.now) (F.files folder.old)) (λ answer.
+    ensures complete { IfSome (F.files folder.old) (λ held.
         result ≢ 1 → NoFault (F.faults folder.old) (F.faults folder.new) →
         HasNoFault (change O.holds O.faults out.old out.new) → HasNoFault (change E.holds E.faults err.old err.new) →
-        Gives answer (change O.holds O.faults out.old out.new) (change E.holds E.faults err.old err.new) result) }
+        OfRight (IsAnswerTo (task_of (map string_bytes words.now)) held) (λ answer.
+        Gives answer (change O.holds O.faults out.old out.new) (change E.holds E.faults err.old err.new) result)) }
 
     // The folder keeps its files, and no count of faults falls.
     ensures files { F.files folder.new ≡ F.files folder.old }
     ensures counts { (F.faults folder.old ≤ F.faults folder.new) × (O.faults out.old ≤ O.faults out.new)
         × (E.faults err.old ≤ E.faults err.new) }
 
-    // And where both files are held, it is what program, options, input length and trace fix.
+    // Where a report is accepted, what it says is right, whoever wrote it.
+    ensures received { IfSome (task_of (map string_bytes words.now)) (λ task. IfSome (F.files folder.old) (λ held. (p bytes : List ℕ) →
+        task.action ≡ Action.Check → held task.program ≡ Some p → held task.second ≡ Some bytes → result ≡ 0 →
+        (report : Content) × IsTextOf report bytes × IsRight p report task.options.steps)) }
+
+    // And where both files of `make` are held, it is what program, options, input length and trace fix.
     ensures headline { IfSome (make_of (map string_bytes words.now)) (λ make. IfSome (F.files folder.old) (λ held. (p x : List ℕ) →
         held make.program ≡ Some p → held make.input ≡ Some x →
         result ≢ 1 → NoFault (F.faults folder.old) (F.faults folder.new) →

@@ -2,7 +2,7 @@
 
 ghost use Rattle.std.specs.Prelude.{◌≡◌, ◌≤◌, ◌⊎◌, map, Some, None, IfSome, IfOk, IfErr, option_map};
 ghost use Rattle.std.specs.String.{string_bytes};
-ghost use Rattle.crash_cli.specs.Words.{raw_texts, number_or, options_of, action_of, make_in, make_of, make_value, AreWithin};
+ghost use Rattle.crash_cli.specs.Words.{raw_texts, number_or, options_of, action_of, task_in, task_of, task_value, AreWithin};
 
 use crate::command::{Raw, WordsError, read_texts};
 use decimal_text::read_decimal;
@@ -11,11 +11,14 @@ use std::alloc::Global;
 /// What is to be done.
 #[derive(Clone, Copy, Debug, PartialEq, Eq)]
 pub enum Action {
+    /// A report of the program's crash on an input.
     Make,
+    /// What the program does on an input.
     Run,
+    /// What the program does on a report's input.
     Replay,
+    /// Whether a report is the one that the program gives on the report's input.
     Check,
-    Demo,
 }
 
 /// What a report is made under.
@@ -29,13 +32,14 @@ pub struct Options {
     pub conflicts: u32,
 }
 
-/// A report is to be made of a program and an input.
+/// An action over two files.
 #[derive(Drop)]
-pub struct Make<'a> {
+pub struct Task<'a> {
+    pub action: Action,
     /// The name of the program's file.
     pub program: &'a str,
-    /// The name of the input's file.
-    pub input: &'a str,
+    /// The name of the input's file, or of the report's.
+    pub second: &'a str,
     pub options: Options,
 }
 
@@ -48,7 +52,6 @@ fn action_of(text: &str) -> Option<Action>
         "run" => Some(Action::Run),
         "replay" => Some(Action::Replay),
         "check" => Some(Action::Check),
-        "demo" => Some(Action::Demo),
         _ => None,
     }
 }
@@ -83,32 +86,31 @@ fn options_of(raw: &Raw<'_>) -> Option<Options>
     })
 }
 
-/// What the texts ask for. Actions that are not built are refused.
-fn make_of<'a>(raw: &Raw<'a>) -> Option<Make<'a>>
-    ensures make { option_map make_value result ≡ make_in (Some (raw_texts raw.now)) }
-    ensures within { IfSome result (λ make. AreWithin make.options) }
+/// What the texts ask for.
+fn task_of<'a>(raw: &Raw<'a>) -> Option<Task<'a>>
+    ensures task { option_map task_value result ≡ task_in (Some (raw_texts raw.now)) }
+    ensures within { IfSome result (λ task. AreWithin task.options) }
 {
     let options = options_of(raw)?;
-    match action_of(raw.action)? {
-        Action::Make => Some(Make {
-            program: raw.first,
-            input: raw.second,
-            options,
-        }),
-        Action::Run | Action::Replay | Action::Check | Action::Demo => None,
-    }
+    let action = action_of(raw.action)?;
+    Some(Task {
+        action,
+        program: raw.first,
+        second: raw.second,
+        options,
+    })
 }
 
-/// What the words ask for: `make PROGRAM INPUT [--seed N] [--steps N] [--conflicts N]`.
-pub fn read_words<'a>(alloc: Global, words: &'a [String]) -> Result<Make<'a>, WordsError>
-    ensures read { IfOk result (λ make. make_of (map string_bytes words.entry.now) ≡ Some (make_value make)) }
+/// What the words ask for: `ACTION PROGRAM SECOND [--seed N] [--steps N] [--conflicts N]`.
+pub fn read_words<'a>(alloc: Global, words: &'a [String]) -> Result<Task<'a>, WordsError>
+    ensures read { IfOk result (λ task. task_of (map string_bytes words.entry.now) ≡ Some (task_value task)) }
     ensures refused { IfErr result (λ e. (e ≡ WordsError.NoMemory)
-        ⊎ ((e ≡ WordsError.Usage) × (make_of (map string_bytes words.entry.now) ≡ None))) }
-    ensures within { IfOk result (λ make. AreWithin make.options) }
+        ⊎ ((e ≡ WordsError.Usage) × (task_of (map string_bytes words.entry.now) ≡ None))) }
+    ensures within { IfOk result (λ task. AreWithin task.options) }
 {
     let raw = read_texts(alloc, words)?;
-    match make_of(&raw) {
-        Some(make) => Ok(make),
+    match task_of(&raw) {
+        Some(task) => Ok(task),
         None => Err(WordsError::Usage),
     }
 }

@@ -2,23 +2,27 @@
 
 use super::{call, folder, is_said, long_program, program};
 use crate::command::WordsError;
-use crate::words::{Options, read_words};
+use crate::words::{Action, Options, read_words};
 use std::alloc::{AllocError, Global};
 use std::test::Fail;
 use test_programs::words::{BRANCH_TO_THE_NEXT, EBREAK};
 
-/// What the words of a line, parted by spaces, ask for: the two names and the options.
-fn asked(alloc: Global, line: &str) -> Result<Option<(String, String, Options)>, AllocError> {
+/// What the words of a line, parted by spaces, ask for: the action, the two names and the options.
+fn asked(
+    alloc: Global,
+    line: &str,
+) -> Result<Option<(Action, String, String, Options)>, AllocError> {
     let mut words = Vec::new(alloc);
     for word in line.split(' ') {
         let word = if word == "''" { "" } else { word };
         words.push(word.to_string(alloc)?)?;
     }
     match read_words(alloc, words.as_slice()) {
-        Ok(make) => Ok(Some((
-            make.program.to_string(alloc)?,
-            make.input.to_string(alloc)?,
-            make.options,
+        Ok(task) => Ok(Some((
+            task.action,
+            task.program.to_string(alloc)?,
+            task.second.to_string(alloc)?,
+            task.options,
         ))),
         Err(WordsError::Usage) => Ok(None),
         Err(WordsError::NoMemory) => Err(AllocError),
@@ -59,15 +63,28 @@ fn words_that_are_a_command(rt: HostRuntime) -> Result<(), Fail> {
         ("make - x", "-", "x", 0, 1_000_000, 10_000),
     ];
     for (line, program, input, seed, steps, conflicts) in cases {
-        let Some(make) = asked(alloc, line)? else {
+        let Some(task) = asked(alloc, line)? else {
             assert!(rt; false, "{line}");
             return Ok(());
         };
-        assert_eq!(rt; make.0.as_str(), program, "{line}");
-        assert_eq!(rt; make.1.as_str(), input, "{line}");
-        assert_eq!(rt; make.2.seed, seed, "{line}");
-        assert_eq!(rt; make.2.steps, steps, "{line}");
-        assert_eq!(rt; make.2.conflicts, conflicts, "{line}");
+        assert_eq!(rt; task.0, Action::Make, "{line}");
+        assert_eq!(rt; task.1.as_str(), program, "{line}");
+        assert_eq!(rt; task.2.as_str(), input, "{line}");
+        assert_eq!(rt; task.3.seed, seed, "{line}");
+        assert_eq!(rt; task.3.steps, steps, "{line}");
+        assert_eq!(rt; task.3.conflicts, conflicts, "{line}");
+    }
+    let actions = [
+        ("run p x --seed 3", Action::Run),
+        ("replay p x --steps 5", Action::Replay),
+        ("--conflicts 2 check p x", Action::Check),
+    ];
+    for (line, action) in actions {
+        assert_eq!(rt;
+            asked(alloc, line)?.map(|task| task.0),
+            Some(action),
+            "{line}"
+        );
     }
     Ok(())
 }
@@ -78,12 +95,11 @@ fn words_that_are_no_command(rt: HostRuntime) -> Result<(), Fail> {
         "make",
         "make p",
         "make p x y",
-        "run p x",
-        "replay p x",
-        "check p x",
         "demo single 3",
         "help p x",
         "Make p x",
+        "run p",
+        "check p x y",
         "make p x --seed 18446744073709551616",
         "make p x --steps 10000001",
         "make p x --steps 0",

@@ -1,0 +1,340 @@
+//! What a receiver does with a program and a report, and runs.
+
+use super::reports::OVERFLOW_REPORT;
+use super::{call, folder, is_said, long_program, program};
+use std::alloc::Global;
+use std::test::Fail;
+use test_programs::words::{
+    BELOW_TEN, COMPARE, COMPARE_WORD, DIVIDE, EBREAK, EQUAL_PAIR, JOINED_TRIPLE, JUMP_TO_TWO,
+    LOAD_X0, NOP, OVERFLOW, RISING_PAIR, SUM_OF_TWO,
+};
+
+/// Whether these words on a program `p` and a second file `x` say just this.
+fn says(
+    alloc: Global,
+    words: &[&str],
+    program_words: &[u32],
+    second: &[u8],
+    status: u8,
+    out: &[u8],
+    err: &[u8],
+) -> Result<bool, Fail> {
+    let mut files = folder(alloc, program(alloc, program_words)?, second.to_vec(alloc)?)?;
+    let said = call(alloc, words, &mut files, 4096, 4096)?;
+    Ok(is_said(&said, status, out, err))
+}
+
+const RUN: [&str; 3] = ["run", "p", "x"];
+
+const REPLAY: [&str; 3] = ["replay", "p", "x"];
+
+const CHECK: [&str; 3] = ["check", "p", "x"];
+
+/// The run ends by an exit, by a trap and by the limit of steps.
+#[test]
+fn runs_and_their_ends(rt: HostRuntime) -> Result<(), Fail> {
+    let alloc = rt.alloc();
+    let exit = b"exit 4
+steps 9
+covered 9
+last 00010000 00010004 00010008 0001000c 00010010 00010014 00010018 0001001c 00010020
+";
+    assert!(rt; says(alloc, &RUN, &COMPARE, b"\x42\0\0\0", 0, exit, b"")?);
+    let trap = b"trap breakpoint 00010000 00000000
+steps 1
+covered 1
+last 00010000
+";
+    assert!(rt; says(alloc, &RUN, &[EBREAK], b"", 0, trap, b"")?);
+    // A loop of two instructions: program counters are counted once, and the last sixteen are shown.
+    let limit = b"limit
+steps 19
+covered 2
+last 00010004 00010000 00010004 00010000 00010004 00010000 00010004 00010000 \
+00010004 00010000 00010004 00010000 00010004 00010000 00010004 00010000
+";
+    let words = ["run", "p", "x", "--steps", "19"];
+    assert!(rt; says(alloc, &words, &[NOP, 0xffdf_f06f], b"", 0, limit, b"")?);
+    let mut files = folder(alloc, long_program(alloc, 5)?, vec![in alloc; 0u8; 65_537]?)?;
+    let said = call(alloc, &RUN, &mut files, 4096, 4096)?;
+    assert!(rt; is_said(&said, 5, b"", b"input too long\n"));
+    Ok(())
+}
+
+#[test]
+fn the_report_of_an_overflown_buffer(rt: HostRuntime) -> Result<(), Fail> {
+    let alloc = rt.alloc();
+    assert!(rt;
+        says(
+            alloc,
+            &CHECK,
+            &OVERFLOW,
+            OVERFLOW_REPORT,
+            0,
+            b"check ok\n",
+            b""
+        )?
+    );
+    let run = b"trap fetch 61616160 61616160
+steps 10
+covered 10
+last 00010000 00010004 00010008 0001000c 00010010 00010014 00010018 0001001c 00010020 61616160
+";
+    assert!(rt; says(alloc, &REPLAY, &OVERFLOW, OVERFLOW_REPORT, 0, run, b"")?);
+    for words in [CHECK, REPLAY] {
+        assert!(rt;
+            says(
+                alloc,
+                &words,
+                &COMPARE,
+                OVERFLOW_REPORT,
+                11,
+                b"",
+                b"wrong program\n"
+            )?
+        );
+        // Cut within the first line of the data.
+        let cut = &OVERFLOW_REPORT[..200];
+        assert!(rt;
+            says(
+                alloc,
+                &words,
+                &OVERFLOW,
+                cut,
+                10,
+                b"",
+                b"not a report: line 7\n"
+            )?
+        );
+    }
+    Ok(())
+}
+
+/// The report of a program that compares the first of four bytes with 65, line by line.
+const LINES: [&str; 10] = [
+    "crash-report 1",
+    "program 124 097844f4fbc397e36a433f8cbb2da14c7ba64f39bd6dbc5dc903ccb8446c2ecb",
+    "trap breakpoint 00010024 00000000",
+    "steps 8",
+    "seed 0",
+    "input 4",
+    "data 41000000",
+    "set 0 1 0000000000000000020000000000000000000000000000000000000000000000",
+    "revealed 8 of 32",
+    "end",
+];
+
+/// The text of the lines, with those of the changes in the place of theirs, which are counted from 1.
+fn text_of(alloc: Global, changes: &[(usize, &str)]) -> Result<Vec<u8>, Fail> {
+    let mut text = Vec::new(alloc);
+    for (index, line) in LINES.iter().enumerate() {
+        let change = changes.iter().find(|change| change.0 == index + 1);
+        let line = change.map_or(*line, |change| change.1);
+        text.extend_from_slice(line.as_bytes())?;
+        text.push(b'\n')?;
+    }
+    Ok(text)
+}
+
+/// Each line is changed in turn, and what `check` and `replay` answer.
+#[test]
+fn each_line_of_a_report(rt: HostRuntime) -> Result<(), Fail> {
+    let alloc = rt.alloc();
+    let cases: [(&[(usize, &str)], u8, &str, u8, &str); 15] = [
+        (&[], 0, "", 0, ""),
+        (
+            &[(1, "crash-report 2")],
+            10,
+            "not a report: line 1",
+            10,
+            "not a report: line 1",
+        ),
+        (
+            &[(
+                2,
+                "program 123 097844f4fbc397e36a433f8cbb2da14c7ba64f39bd6dbc5dc903ccb8446c2ecb",
+            )],
+            11,
+            "wrong program",
+            11,
+            "wrong program",
+        ),
+        (
+            &[(
+                2,
+                "program 124 197844f4fbc397e36a433f8cbb2da14c7ba64f39bd6dbc5dc903ccb8446c2ecb",
+            )],
+            11,
+            "wrong program",
+            11,
+            "wrong program",
+        ),
+        (
+            &[(3, "trap breakpoint 00010020 00000000")],
+            12,
+            "differs: line 3",
+            12,
+            "differs: line 3",
+        ),
+        (
+            &[(3, "trap load 00010024 00000000")],
+            12,
+            "differs: line 3",
+            12,
+            "differs: line 3",
+        ),
+        (
+            &[(3, "trap breakpoint 00010024 00000001")],
+            12,
+            "differs: line 3",
+            12,
+            "differs: line 3",
+        ),
+        (
+            &[(4, "steps 9")],
+            12,
+            "differs: line 4",
+            12,
+            "differs: line 4",
+        ),
+        (
+            &[(4, "steps 7")],
+            12,
+            "differs: line 4",
+            12,
+            "differs: line 3",
+        ),
+        (&[(5, "seed 1")], 12, "differs: line 7", 0, ""),
+        (
+            &[(6, "input 3")],
+            10,
+            "not a report: line 7",
+            10,
+            "not a report: line 7",
+        ),
+        (&[(7, "data 41000100")], 12, "differs: line 7", 0, ""),
+        (
+            &[
+                (
+                    8,
+                    "set 0 2 0000000000000000030000000000000000000000000000000000000000000000",
+                ),
+                (9, "revealed 7 of 32"),
+            ],
+            12,
+            "differs: line 8",
+            0,
+            "",
+        ),
+        (
+            &[(9, "revealed 7 of 32")],
+            10,
+            "not a report: line 9",
+            10,
+            "not a report: line 9",
+        ),
+        (
+            &[(10, "ends")],
+            10,
+            "not a report: line 10",
+            10,
+            "not a report: line 10",
+        ),
+    ];
+    let run = b"trap breakpoint 00010024 00000000
+steps 8
+covered 8
+last 00010000 00010004 00010008 0001000c 00010010 00010014 00010018 00010024
+";
+    for (changes, checked, check_line, replayed, replay_line) in cases {
+        let text = text_of(alloc, changes)?;
+        let mut files = folder(alloc, program(alloc, &COMPARE)?, text)?;
+        let check = call(alloc, &CHECK, &mut files, 4096, 4096)?;
+        assert_eq!(rt; check.status, checked, "{check_line}");
+        let err = check.err.as_slice();
+        assert!(rt;
+            err == check_line.as_bytes() || err.strip_suffix(b"\n") == Some(check_line.as_bytes()),
+            "{check_line}"
+        );
+        let replay = call(alloc, &REPLAY, &mut files, 4096, 4096)?;
+        assert_eq!(rt; replay.status, replayed, "{replay_line}");
+        let err = replay.err.as_slice();
+        assert!(rt;
+            err == replay_line.as_bytes()
+                || err.strip_suffix(b"\n") == Some(replay_line.as_bytes()),
+            "{replay_line}"
+        );
+        if replayed == 0 {
+            assert!(rt; replay.out.as_slice() == run.as_slice());
+        }
+    }
+    Ok(())
+}
+
+/// A report is checked under its own seed and the limits of the words.
+#[test]
+fn a_report_of_another_seed_and_limits(rt: HostRuntime) -> Result<(), Fail> {
+    let alloc = rt.alloc();
+    let mut files = folder(alloc, program(alloc, &COMPARE)?, b"Azzz".to_vec(alloc)?)?;
+    let made = call(
+        alloc,
+        &["make", "p", "x", "--seed", "7"],
+        &mut files,
+        4096,
+        4096,
+    )?;
+    assert_eq!(rt; made.status, 0);
+    let report = made.out.as_slice();
+    assert!(rt; says(alloc, &CHECK, &COMPARE, report, 0, b"check ok\n", b"")?);
+    let words = ["check", "p", "x", "--steps", "7"];
+    assert!(rt; says(alloc, &words, &COMPARE, report, 8, b"", b"still running\n")?);
+    // The limit of steps is for `check` alone: `replay` takes as many as the report says.
+    let words = ["replay", "p", "x", "--steps", "7"];
+    let mut files = folder(alloc, program(alloc, &COMPARE)?, report.to_vec(alloc)?)?;
+    assert_eq!(rt; call(alloc, &words, &mut files, 4096, 4096)?.status, 0);
+    Ok(())
+}
+
+/// What is made of a crash is accepted, and run again as the crash.
+#[test]
+fn reports_that_are_made(rt: HostRuntime) -> Result<(), Fail> {
+    let alloc = rt.alloc();
+    let cases: [(&[u32], &[u8]); 12] = [
+        (&COMPARE, b"Azzz"),
+        (&BELOW_TEN, b"\x03"),
+        (&SUM_OF_TWO, b"\x30\x34"),
+        (&RISING_PAIR, b"12"),
+        (&EQUAL_PAIR, b"22"),
+        (&COMPARE_WORD, b"\x78\x56\x34\x12"),
+        (&DIVIDE, b"\0\0"),
+        (&LOAD_X0, b""),
+        (&JUMP_TO_TWO, b""),
+        (&JOINED_TRIPLE, b"\xff\xff\xff"),
+        (&[EBREAK], b"abc"),
+        (
+            &OVERFLOW,
+            b"aaaaaaaaaaaaaaaaaaaaaaaaaaaaaaaaaaaaaaaaaaaaaaaaaaaaaaaaaaaaaaaa",
+        ),
+    ];
+    for (words, input) in cases {
+        let mut files = folder(alloc, program(alloc, words)?, input.to_vec(alloc)?)?;
+        let run = call(alloc, &RUN, &mut files, 4096, 4096)?;
+        assert_eq!(rt; run.status, 0);
+        let made = call(
+            alloc,
+            &["make", "p", "x", "--seed", "3"],
+            &mut files,
+            4096,
+            4096,
+        )?;
+        if made.status == 0 {
+            let report = made.out.as_slice();
+            assert!(rt; says(alloc, &CHECK, words, report, 0, b"check ok\n", b"")?);
+            assert!(rt; says(alloc, &REPLAY, words, report, 0, run.out.as_slice(), b"")?);
+        } else {
+            // No crash.
+            assert_eq!(rt; made.status, 7);
+        }
+    }
+    Ok(())
+}
