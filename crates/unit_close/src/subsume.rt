@@ -11,7 +11,7 @@ use gate_net::Lit;
 use no_memory::NoMemory;
 use std::alloc::Global;
 
-/// How many learned clauses are watched at least before any is looked through.
+/// How many clauses are learned at least before those that are watched are looked through again.
 const FEW: usize = 64;
 
 /// Whether the clause has the literal.
@@ -42,18 +42,11 @@ fn subsumes(part: &[Lit], clause: &[Lit]) -> bool
     true
 }
 
-/// One of 64 bits for a literal.
-fn literal_bit(l: Lit) -> u64 {
-    let place = 2 * (l.name % 32) as u32;
-    let even = 1_u64 << place;
-    if l.positive { even << 1 } else { even }
-}
-
-/// The bits of the clause's literals. A clause has all bits of its parts.
+/// A bit for each literal's name. A clause has all bits of its parts.
 fn signature(clause: &[Lit]) -> u64 {
     let mut bits = 0;
     for l in clause {
-        bits |= literal_bit(*l);
+        bits |= 1_u64 << (l.name % 64) as u32;
     }
     bits
 }
@@ -139,5 +132,7 @@ pub fn add_learned(
 
 /// How many clauses are watched before they are looked through again, where so many learned ones are left.
 pub fn next_limit(given: usize, left: usize) -> usize {
-    given.saturating_add(left).saturating_add(left.max(FEW))
+    given
+        .saturating_add(left)
+        .saturating_add((left / 8).max(FEW))
 }
