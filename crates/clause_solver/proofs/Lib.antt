@@ -1,5 +1,6 @@
 pub mod CloserLemmas
 pub mod ReachedLemmas
+pub mod TrimLemmas
 pub mod LoopLemmas
 pub mod SolveLemmas
 pub mod OrderLemmas

@@ -1,9 +1,9 @@
 -- What the search answers, and where it stands.
-use Rattle.std.specs.Prelude.{◌≡◌, ◌<◌, ◌≤◌, ◌+◌, ℕ, Bool, true, false, List, ◌++◌, length, drop}
+use Rattle.std.specs.Prelude.{◌≡◌, ◌↔◌, ℕ, Bool, true, false, List, Contains, take, drop}
 use Rattle.gate_net.specs.declared.literals.Lit.{Lit}
 use Rattle.unit_close.specs.Closing.{Closing}
 use Rattle.search_model.specs.Literals.{named}
-use Rattle.search_model.specs.Search.{State, after, conflict_count, ends_in_conflict, values_found}
+use Rattle.search_model.specs.Search.{State, trimmed, after, conflict_count, ends_in_conflict, values_found}
 use Rattle.search_model.specs.Model.{IsModel, IsFirstModel}
 use Rattle.clause_solver.specs.declared.found.Found.{Found}
 use Rattle.clause_solver.specs.declared.found.Found.TheVariants as found
@@ -35,9 +35,12 @@ IsFound clauses order (found.Model values conflicts) =
 IsFound clauses order found.Unsatisfiable =
     (ends_in_conflict named clauses order ≡ true) × ((set : Lit → Bool) → IsModel named clauses set → ⊥)
 
--- The decisions from `at` on pass the test with those tried, unless that is the first that may be; those after `at` don't.
-pub record IsShortestEnd (test : List Lit → Bool) (tried decisions : List Lit) (from at : ℕ) : Type 0 where
-  pub after : from ≤ at
-  pub within : at ≤ length decisions
-  pub passes : from < at → test (tried ++ drop at decisions) ≡ true
-  pub least : at < length decisions → test (tried ++ drop (at + 1) decisions) ≡ false
+-- both lists have the same literals
+abbrev pub HaveSame : List Lit → List Lit → Type 0
+HaveSame xs ys = (l : Lit) → Contains xs l ↔ Contains ys l
+
+-- from those left before decision `start`, and what stood before the last of them, trimming comes to these at `end`
+abbrev pub Trims : (List Lit → Bool) → List Lit → ℕ → ℕ → List Lit → ℕ → List Lit → ℕ → Type 0
+Trims test decisions start end left before left' before' =
+    trimmed test (record { left = left; before = take before decisions }) (take start decisions) (drop start decisions)
+    ≡ trimmed test (record { left = left'; before = take before' decisions }) (take end decisions) (drop end decisions)

@@ -1,12 +1,12 @@
 //! What is learned from a conflict.
 
-ghost use Rattle.std.specs.Prelude.{◌≡◌, ◌<◌, ◌≤◌, ◌+◌, List, [], take, map, length, true, IfOk, OnOk, OnErr};
+ghost use Rattle.std.specs.Prelude.{◌≡◌, ◌<◌, ◌≤◌, ◌+◌, ◌++◌, take, drop, map, length, false, IfOk, OnOk, OnErr};
 ghost use Rattle.gate_net.specs.Lits.{negation, AreNamed};
 ghost use Rattle.unit_close.specs.Closing.{clauses_of};
 ghost use Rattle.search_model.specs.Literals.{named};
 ghost use Rattle.search_model.specs.Search.{trim, learn};
 ghost use Rattle.search_model.specs.Tests.{is_conflict};
-ghost use Rattle.clause_solver.specs.Solved.{SameClauses, SameFormula, state_of, IsShortestEnd};
+ghost use Rattle.clause_solver.specs.Solved.{SameClauses, SameFormula, state_of, HaveSame, Trims};
 
 use crate::closing::conflicts;
 use gate_net::Lit;
@@ -22,31 +22,76 @@ struct Trimmed {
     before: usize,
 }
 
-/// Where the shortest end of the decisions begins with which those tried conflict, or `from` where none after it does.
-/// Those tried grow from the last decision on, until they conflict.
-fn shortest_end(
-    closer: &mut Closer,
-    tried: &mut Vec<Lit>,
-    decisions: &[Lit],
-    from: usize,
-) -> Result<usize, NoMemory>
-    requires tried { AreNamed closer.old.names tried.old.items }
-    requires decisions { AreNamed closer.old.names decisions.now }
-    requires from { from ≤ length decisions.now }
-    ensures end { IfOk result (λ at. IsShortestEnd (is_conflict named (clauses_of closer.old)) tried.old.items decisions.now from at) }
-    ensures kept { SameClauses closer.old closer.new }
+/// The literals of both lists.
+fn joined(alloc: Global, first: &[Lit], second: &[Lit]) -> Result<Vec<Lit>, NoMemory>
+    ensures { IfOk result (λ all. all.items ≡ first.now ++ second.now) }
 {
-    for i in (from..decisions.len()).rev() {
-        if conflicts(closer, tried.as_slice()) {
-            return Ok(i + 1);
-        }
-        tried.push(decisions[i])?;
-    }
-    Ok(from)
+    let mut all = first.to_vec(alloc)?;
+    all.extend_from_slice(second)?;
+    Ok(all)
 }
 
-/// Drops each decision, from the first on, without which those left and those after it still conflict. A conflict stays
-/// one with more decisions, so each pass finds the next decision that is left.
+/// Trims the decisions from `start` to `end`. Those left so far and those from `end` on don't conflict, and `base` has
+/// just these. A conflict stays one with more decisions, so the first half goes at once where the rest conflicts
+/// without it. Halves of halves share their bases, of which the closer keeps the closure.
+fn trim_part(
+    alloc: Global,
+    closer: &mut Closer,
+    base: &[Lit],
+    decisions: &[Lit],
+    start: usize,
+    end: usize,
+    trimmed: &mut Trimmed,
+) -> Result<(), NoMemory>
+    requires part { start < end }
+    requires within { end ≤ length decisions.now }
+    requires decisions { AreNamed closer.old.names decisions.now }
+    requires base_named { AreNamed closer.old.names base.now }
+    requires left { AreNamed closer.old.names trimmed.old.left.items }
+    requires base { HaveSame base.now (trimmed.old.left.items ++ drop end decisions.now) }
+    requires calm { is_conflict named (clauses_of closer.old) (trimmed.old.left.items ++ drop end decisions.now) ≡ false }
+    ensures trimmed { IfOk result (λ _. Trims (is_conflict named (clauses_of closer.old)) decisions.now start end
+        trimmed.old.left.items trimmed.old.before trimmed.new.left.items trimmed.new.before) }
+    ensures more { IfOk result (λ _. take (length trimmed.old.left.items) trimmed.new.left.items ≡ trimmed.old.left.items) }
+    ensures left { IfOk result (λ _. AreNamed closer.old.names trimmed.new.left.items) }
+    ensures kept { SameClauses closer.old closer.new }
+{
+    if end - start == 1 {
+        trimmed.left.push(decisions[start])?;
+        trimmed.before = start;
+        return Ok(());
+    }
+    let middle = start + (end - start) / 2;
+    let later = joined(alloc, base, &decisions[middle..end])?;
+    if conflicts(closer, later.as_slice()) {
+        return trim_part(alloc, closer, base, decisions, middle, end, trimmed);
+    }
+    let count = trimmed.left.len();
+    trim_part(
+        alloc,
+        closer,
+        later.as_slice(),
+        decisions,
+        start,
+        middle,
+        trimmed,
+    )?;
+    let left = joined(alloc, base, &trimmed.left.as_slice()[count..])?;
+    if conflicts(closer, left.as_slice()) {
+        return Ok(());
+    }
+    trim_part(
+        alloc,
+        closer,
+        left.as_slice(),
+        decisions,
+        middle,
+        end,
+        trimmed,
+    )
+}
+
+/// Drops each decision, from the first on, without which those left and those after it still conflict.
 fn trim(alloc: Global, closer: &mut Closer, decisions: &[Lit]) -> Result<Trimmed, NoMemory>
     requires { AreNamed closer.old.names decisions.now }
     ensures trimmed { IfOk result (λ r. trim named (clauses_of closer.old) decisions.now
@@ -54,22 +99,26 @@ fn trim(alloc: Global, closer: &mut Closer, decisions: &[Lit]) -> Result<Trimmed
     ensures left { IfOk result (λ r. AreNamed closer.old.names r.left.items) }
     ensures kept { SameClauses closer.old closer.new }
 {
-    let mut left = SmallVec::new(alloc);
-    let mut before = 0;
-    let mut next = 0;
-    let mut tried = Vec::new(alloc);
-    for _pass in 0..decisions.len() {
-        tried.clear();
-        tried.extend_from_slice(left.as_slice())?;
-        let at = shortest_end(closer, &mut tried, decisions, next)?;
-        if at == decisions.len() {
-            return Ok(Trimmed { left, before });
-        }
-        left.push(decisions[at])?;
-        before = at;
-        next = at + 1;
+    let mut trimmed = Trimmed {
+        left: SmallVec::new(alloc),
+        before: 0,
+    };
+    if decisions.is_empty() {
+        return Ok(trimmed);
     }
-    Ok(Trimmed { left, before })
+    if conflicts(closer, &[]) {
+        return Ok(trimmed);
+    }
+    trim_part(
+        alloc,
+        closer,
+        &[],
+        decisions,
+        0,
+        decisions.len(),
+        &mut trimmed,
+    )?;
+    Ok(trimmed)
 }
 
 /// The clause of the negations of the literals.

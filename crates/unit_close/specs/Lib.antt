@@ -11,4 +11,5 @@ pub mod Watching
 pub mod Picked
 pub mod Work
 pub mod Standing
+pub mod Subsumed
 pub mod Whole

@@ -10,8 +10,10 @@ ghost use Rattle.unit_close.specs.Values.{IsClosure};
 ghost use Rattle.unit_close.specs.Closing.{Closing, clauses_of};
 ghost use Rattle.unit_close.specs.declared.closed.Closed.{Closed};
 
+use crate::clauses::Clauses;
 use crate::closed::Closed;
 use crate::decide::{close_trail, make_ready};
+use crate::subsume::{add_learned, next_limit};
 use crate::trail::Trail;
 use crate::watches::Watches;
 use gate_net::{Formula, Lit};
@@ -22,10 +24,15 @@ use std::marker::Model;
 /// Clauses of a formula and learned ones, and the closure that the last close took.
 #[derive(Drop)]
 pub struct Closer {
-    /// The formula's clauses, then the learned ones.
+    alloc: Global,
+    /// The formula's clauses, then learned ones: of each learned clause a part, or the clause itself.
     watches: Watches,
     /// How many clauses are the formula's.
     given: usize,
+    /// How many clauses are watched before those of which others are parts are left out.
+    limit: usize,
+    /// All learned clauses.
+    learned: Clauses,
     trail: Trail,
     /// Whether the trail has what holds without a decision.
     is_started: bool,
@@ -37,9 +44,9 @@ impl Model for Closer {
 
     ghost Value = { Closing };
 
-    ghost view = { λ c. closing_of c.given c.watches c.trail };
+    ghost view = { λ c. closing_of c.given c.watches c.learned c.trail };
 
-    ghost invariant = { λ c. IsWhole c.given c.watches c.trail c.is_started };
+    ghost invariant = { λ c. IsWhole c.given c.watches c.learned c.trail c.is_started };
 }
 
 impl Closer {
@@ -56,8 +63,11 @@ impl Closer {
         }
         let given = watches.len();
         Ok(Closer {
+            alloc,
             watches,
             given,
+            limit: next_limit(given, 0),
+            learned: Clauses::new(alloc),
             trail,
             is_started: false,
         })
@@ -108,10 +118,24 @@ impl Closer {
         ensures learned { IfOk result (λ _. self.new.learned ≡ self.old.learned ++ clause.now ∷ []) }
         ensures err { IfErr result (λ _. self.new ≡ self.old) }
     {
-        self.watches.add(clause)?;
-        self.trail.clear();
-        self.is_started = false;
-        let _ = self.watches.len();
-        Ok(())
+        self.learned.push(clause)?;
+        match add_learned(
+            self.alloc,
+            &mut self.watches,
+            self.given,
+            &mut self.limit,
+            clause,
+        ) {
+            Ok(()) => {
+                self.trail.clear();
+                self.is_started = false;
+                let _ = self.watches.len();
+                Ok(())
+            }
+            Err(e) => {
+                self.learned.pop();
+                Err(e)
+            }
+        }
     }
 }

@@ -1,4 +1,5 @@
 pub mod Tied
 pub mod Gates
+pub mod Freeing
 pub mod Agreeing
 pub mod Tests

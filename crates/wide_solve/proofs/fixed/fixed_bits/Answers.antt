@@ -8,7 +8,7 @@ use Rattle.search_model.specs.Literals.{named}
 use Rattle.search_model.specs.Tests.{is_conflict}
 use Rattle.wide_laws.specs.Sets.{fixed_from, has_roots, force_roots, yes_name}
 use Rattle.wide_laws.proofs.Freed.{names_fixed, names_calm}
-use Rattle.wide_solve.proofs.FixedLemmas.{ok_more}
+use Rattle.clause_solver.proofs.TrimLemmas.{ok_more}
 use Rattle.wide_solve.proofs.SearchLemmas.{named_below}
 use Rattle.wide_solve.proofs.fixed.fixed_bits.Goals as goal
 
