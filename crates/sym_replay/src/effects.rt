@@ -115,7 +115,7 @@ impl ReplayState {
     }
 
     /// Puts the two lower bytes of a value at the addresses from one up.
-    #[tactic(auto, using(crate::proofs::StateLemmas::grown_value), unfolding(replay_law::specs::Terms::put_trees))]
+    #[tactic(auto, using(crate::proofs::ValueLemmas::grown_value), unfolding(replay_law::specs::Terms::put_trees))]
     fn store_half(&mut self, arena: &mut Arena, address: u32, v: &Value) -> Result<(), NoMemory>
         requires state { IsState arena.old self.old }
         requires value { IsValueIn arena.old v.now }
@@ -133,7 +133,7 @@ impl ReplayState {
     }
 
     /// Puts the four bytes of a value at the addresses from one up.
-    #[tactic(auto, using(crate::proofs::StateLemmas::grown_value), unfolding(replay_law::specs::Terms::put_trees))]
+    #[tactic(auto, using(crate::proofs::ValueLemmas::grown_value), unfolding(replay_law::specs::Terms::put_trees))]
     fn store_word(&mut self, arena: &mut Arena, address: u32, v: &Value) -> Result<(), NoMemory>
         requires state { IsState arena.old self.old }
         requires value { IsValueIn arena.old v.now }

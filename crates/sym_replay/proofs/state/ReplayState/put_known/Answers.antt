@@ -1,5 +1,4 @@
-use Rattle.std.proofs.Common.{◌≡◌, ◌%◌, ◌∙◌, sym, ap, arith, if◌then◌else◌}
-use Rattle.term_model.specs.Tree.{Const}
+use Rattle.std.proofs.Common.{◌∙◌, sym, if◌then◌else◌}
 use Rattle.replay_law.specs.Terms.{with_tree}
 use Rattle.sym_replay.specs.Values.{value_tree}
 use Rattle.sym_replay.specs.States.{terms_of}
@@ -9,6 +8,5 @@ use Rattle.sym_replay.proofs.state.ReplayState.put_known.Goals as goal
 pub returns-in-Known-clause-terms : goal.returns-in-Known-clause-terms
 returns-in-Known-clause-terms c trees =
     let s = terms_of trees c.args.self.now in
-    let same : c.in-Known.word % 256 ≡ c.in-Known.word = omega (arith, c.if-word-lt256.true) in
     c.put_number.ensures.terms trees
-    ∙ (λ i. if c.put_number.result then with_bytes s (with_tree s.bytes c.args.address ((ap Const same ∙ ap (value_tree trees) (sym c.in-Known.is)) i)) else s)
+    ∙ (λ i. if c.put_number.result then with_bytes s (with_tree s.bytes c.args.address (value_tree trees (sym c.in-Known.is i))) else s)
