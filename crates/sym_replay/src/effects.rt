@@ -225,6 +225,18 @@ impl ReplayState {
         made(arena, Op::Alu(AluOp::Add), &base, &added)
     }
 
+    /// Puts a number into a register.
+    fn put_constant(&mut self, arena: &Arena, register: u8, value: u32)
+        requires state { IsState arena.now self.old }
+        requires register { register < 32 }
+        ensures state { IsState arena.now self.new }
+        ensures terms { terms_of arena.now self.new ≡ put_reg register (Const value) (terms_of arena.now self.old) }
+        ensures place { self.new.place ≡ self.old.place }
+    {
+        let _ = arena;
+        self.put(register, Value::Known(value));
+    }
+
     /// Puts the result of an operation on two values into a register.
     fn put_made(
         &mut self,
@@ -283,17 +295,17 @@ impl ReplayState {
     {
         match reply {
             Reply::Answers(value) => {
-                self.put(10, Value::Known(value));
+                self.put_constant(arena, 10, value);
                 Ok(())
             }
             Reply::Moves(count) => {
                 self.read(arena, event.call[2], count)?;
-                self.put(10, Value::Known(count));
+                self.put_constant(arena, 10, count);
                 Ok(())
             }
             Reply::Breaks(heap, address) => {
                 self.move_break(heap, address);
-                self.put(10, Value::Known(address));
+                self.put_constant(arena, 10, address);
                 Ok(())
             }
             Reply::Exits(_) => Ok(()),
@@ -333,19 +345,19 @@ impl ReplayState {
     {
         match instr {
             Instr::Lui { rd, imm } => {
-                self.put(rd, Value::Known(bits(imm)));
+                self.put_constant(arena, rd, bits(imm));
                 Ok(())
             }
             Instr::Auipc { rd, imm } => {
-                self.put(rd, Value::Known(event.pc.wrapping_add(bits(imm))));
+                self.put_constant(arena, rd, event.pc.wrapping_add(bits(imm)));
                 Ok(())
             }
             Instr::Jal { rd, offset: _ } => {
-                self.put(rd, Value::Known(event.pc.wrapping_add(4)));
+                self.put_constant(arena, rd, event.pc.wrapping_add(4));
                 Ok(())
             }
             Instr::Jalr { rd, rs1: _, imm: _ } => {
-                self.put(rd, Value::Known(event.pc.wrapping_add(4)));
+                self.put_constant(arena, rd, event.pc.wrapping_add(4));
                 Ok(())
             }
             Instr::Branch { .. } => Ok(()),
