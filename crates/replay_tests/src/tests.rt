@@ -10,6 +10,65 @@ use term_arena::{Arena, Op, Term};
 use test_programs::words::{BRANCH_TO_THE_NEXT, JUMP_TO_TWO, OVERFLOW, RUN_THE_INPUT, SUM_OF_TWO};
 use test_programs::{program_image, zeros};
 
+/// Reads two bytes, and adds its number to each in a loop. Where a sum is no less than 98 it stops early.
+const COUNTED_BYTES: [u32; 14] = [
+    0x0001_0593, // addi x11,x2,0
+    0x0020_0613, // addi x12,x0,2
+    0x03f0_0893, // addi x17,x0,63
+    0x0000_0073, // ecall
+    0x0000_0313, // addi x6,x0,0
+    0x0620_0413, // addi x8,x0,98
+    0x0061_04b3, // add x9,x2,x6
+    0x0004_c283, // lbu x5,0(x9)
+    0x0062_83b3, // add x7,x5,x6
+    0x0083_e463, // bltu x7,x8,0x1002c
+    0x0010_0073, // ebreak
+    0x0013_0313, // addi x6,x6,1
+    0xfec3_14e3, // bne x6,x12,0x10018
+    0x0010_0073, // ebreak
+];
+
+/// Reads a byte into a word that it has stored, compares the word, stores a zero over the byte, and compares it again.
+const PATCHED_WORD: [u32; 12] = [
+    0x1234_5437, // lui x8,0x12345
+    0x0081_2223, // sw x8,4(x2)
+    0x0041_0593, // addi x11,x2,4
+    0x0010_0613, // addi x12,x0,1
+    0x03f0_0893, // addi x17,x0,63
+    0x0000_0073, // ecall
+    0x0041_2303, // lw x6,4(x2)
+    0x0083_1463, // bne x6,x8,0x10024
+    0x0001_0223, // sb x0,4(x2)
+    0x0041_2303, // lw x6,4(x2)
+    0xfe83_1ee3, // bne x6,x8,0x10024
+    0x0010_0073, // ebreak
+];
+
+/// Reads a byte into the heap and compares it with 0, moves the break past it and back, and compares it again.
+const MOVED_BREAK: [u32; 21] = [
+    0x0d60_0893, // addi x17,x0,214
+    0x0000_0073, // ecall
+    0x0005_0413, // addi x8,x10,0
+    0x0104_0513, // addi x10,x8,16
+    0x0000_0073, // ecall
+    0x0000_0513, // addi x10,x0,0
+    0x0004_0593, // addi x11,x8,0
+    0x0010_0613, // addi x12,x0,1
+    0x03f0_0893, // addi x17,x0,63
+    0x0000_0073, // ecall
+    0x0004_4283, // lbu x5,0(x8)
+    0x0002_9463, // bne x5,x0,0x10034
+    0x0010_0073, // ebreak
+    0x0d60_0893, // addi x17,x0,214
+    0x0004_0513, // addi x10,x8,0
+    0x0000_0073, // ecall
+    0x0104_0513, // addi x10,x8,16
+    0x0000_0073, // ecall
+    0x0004_4283, // lbu x5,0(x8)
+    0xfe02_94e3, // bne x5,x0,0x10034
+    0x0010_0073, // ebreak
+];
+
 /// The conditions of an image's run on an input of up to 64 bytes.
 fn conditions_of_image(
     alloc: Global,
@@ -125,5 +184,51 @@ fn a_misaligned_jump_shows_nothing(rt: HostRuntime) -> Result<(), Fail> {
     let mut arena = Arena::new(rt.alloc())?;
     let found = conditions_of(rt.alloc(), &mut arena, &JUMP_TO_TWO, &[0x61])?;
     assert_eq!(rt; found.len(), 0);
+    Ok(())
+}
+
+#[test]
+fn bytes_beside_a_counter_are_terms_with_numbers(rt: HostRuntime) -> Result<(), Fail> {
+    let mut arena = Arena::new(rt.alloc())?;
+    let found = conditions_of(rt.alloc(), &mut arena, &COUNTED_BYTES, &[0x61, 0x60])?;
+    let first = arena.input(0)?;
+    let second = arena.input(1)?;
+    let one = arena.constant(1)?;
+    let limit = arena.constant(98)?;
+    let sum = arena.intern(Op::Alu(AluOp::Add), second, one)?;
+    let wanted = [
+        arena.intern(Op::Alu(AluOp::Sltu), first, limit)?,
+        arena.intern(Op::Alu(AluOp::Sltu), sum, limit)?,
+    ];
+    assert_eq!(rt; found.as_slice(), wanted.as_slice());
+    Ok(())
+}
+
+#[test]
+fn a_word_has_read_and_known_bytes(rt: HostRuntime) -> Result<(), Fail> {
+    let mut arena = Arena::new(rt.alloc())?;
+    let found = conditions_of(rt.alloc(), &mut arena, &PATCHED_WORD, &[0])?;
+    let wanted = [input_is(&mut arena, 0, 0)?];
+    assert_eq!(rt; found.as_slice(), wanted.as_slice());
+    Ok(())
+}
+
+#[test]
+fn bytes_that_the_break_moves_past_are_known(rt: HostRuntime) -> Result<(), Fail> {
+    let mut arena = Arena::new(rt.alloc())?;
+    let found = conditions_of(rt.alloc(), &mut arena, &MOVED_BREAK, &[0x61])?;
+    let is_zero = input_is(&mut arena, 0, 0)?;
+    let zero = arena.constant(0)?;
+    let wanted = [arena.intern(Op::Eq, is_zero, zero)?];
+    assert_eq!(rt; found.as_slice(), wanted.as_slice());
+    Ok(())
+}
+
+#[test]
+fn a_run_that_reads_nothing_has_no_terms(rt: HostRuntime) -> Result<(), Fail> {
+    let mut arena = Arena::new(rt.alloc())?;
+    let found = conditions_of(rt.alloc(), &mut arena, &JUMP_TO_TWO, &[])?;
+    assert_eq!(rt; found.len(), 0);
+    assert_eq!(rt; arena.len(), 0);
     Ok(())
 }

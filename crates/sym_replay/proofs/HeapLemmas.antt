@@ -11,7 +11,8 @@ use Rattle.memory_map.specs.Heaps.{Space, heap_cell, may_break, with_break, afte
 use Rattle.memory_map.proofs.Heaps.{get-with_break}
 use Rattle.term_model.specs.Tree.{Tree, Const}
 use Rattle.sym_replay.specs.declared.state.ReplayState.{ReplayState}
-use Rattle.sym_replay.specs.States.{byte_tree, IsTermIn, IsState}
+use Rattle.sym_replay.specs.States.{byte_tree, IsState}
+use Rattle.sym_replay.proofs.StateLemmas.{at_key, replaced, fewer_terms}
 
 -- ---- terms that are taken away
 
@@ -26,9 +27,6 @@ without_one from to a q true o h l e = in_range (nat_le from q && nat_lt q to) (
     in_range true k = refl
     in_range false k = cc
 without_one from to a q false o h l e = refl
-
-at_key : (a q : ℕ) → is_at (nat_cmp a) q ≡ true → q ≡ a
-at_key a q e = grind (arith, common_steps)
 
 -- one more is taken away
 pub one_cleared : (old new : BTreeMap ℕ ℕ) (from to a : ℕ) → from ≤ a → a < to → Updates nat_cmp old new a None → (q : ℕ) → cleared from to q (get nat_cmp new q) ≡ cleared from to q (get nat_cmp old q)
@@ -65,28 +63,15 @@ moved_cell false false o = refl
 moved_byte : (m : Map) (b a q : ℕ) → byte_at (with_break m b a) q ≡ cond (is_in_span b (a - b) q || is_in_span a (b - a) q) 0 (byte_at m q)
 moved_byte m b a q = ap byte_of_cell (get-with_break m b a q) ∙ moved_cell (is_in_span b (a - b) q) (is_in_span a (b - a) q) (finmap.get m q)
 
-by_swept : (trees : List Tree) (m new : Map) (q : ℕ) (o n : Option ℕ) (t : Bool) → n ≡ cond t None o → byte_at new q ≡ cond t 0 (byte_at m q) → byte_tree trees new q n ≡ cond t (Const 0) (byte_tree trees m q o)
-by_swept trees m new q o n true e zero = ap (byte_tree trees new q) e ∙ ap Const zero
-by_swept trees m new q None n false e same = ap (byte_tree trees new q) e ∙ ap Const same
-by_swept trees m new q (Some u) n false e same = ap (byte_tree trees new q) e
-
 -- the tree at an address after the break has moved
 pub swept : (trees : List Tree) (m : Map) (h : Heap) (a lo hi q : ℕ) (o n : Option ℕ) → lo ≡ min h.brk a → hi ≡ max h.brk a → n ≡ cleared lo hi q o → byte_tree trees (with_break m h.brk a) q n ≡ (if is_in_span h.brk (a - h.brk) q || is_in_span a (h.brk - a) q then Const 0 else byte_tree trees m q o)
 swept trees m h a lo hi q o n e f left =
-    by_swept trees m (with_break m h.brk a) q o n (is_in_span h.brk (a - h.brk) q || is_in_span a (h.brk - a) q)
+    replaced trees m (with_break m h.brk a) q 0 o n (is_in_span h.brk (a - h.brk) q || is_in_span a (h.brk - a) q)
     (left ∙ ap (λ t. cond t None o) (between h.brk a q lo hi e f)) (moved_byte m h.brk a q)
 
--- terms that are left belong to the arena
-pub cleared_state : (trees : List Tree) (s new : ReplayState) (lo hi : ℕ) → IsState trees s → new.registers ≡ s.registers → ((q : ℕ) → get nat_cmp new.bytes q ≡ cleared lo hi q (get nat_cmp s.bytes q)) → IsState trees new
-cleared_state trees s new lo hi h same left = record {
-  registers = subst (λ (rs : List ℕ). All (IsTermIn trees) rs) (sym same) h.registers;
-  count = ap length same ∙ h.count;
-  bytes = λ a t e. by_test (nat_le lo a && nat_lt a hi) a t (sym (left a) ∙ e);
-}
-  where
-    by_test : (b : Bool) (a t : ℕ) → cond b None (get nat_cmp s.bytes a) ≡ Some t → IsTermIn trees t
-    by_test true a t e = cc
-    by_test false a t e = h.bytes a t e
+-- the state once these terms are taken away
+pub cleared_state : (trees : List Tree) (s : ReplayState) (new : BTreeMap ℕ ℕ) (lo hi : ℕ) → IsState trees s → ((q : ℕ) → get nat_cmp new q ≡ cleared lo hi q (get nat_cmp s.bytes q)) → IsState trees (record s { bytes = new })
+cleared_state trees s new lo hi h left = fewer_terms trees s new (λ q. nat_le lo q && nat_lt q hi) h left
 
 -- what brk leaves of memory
 pub break_done : (m : Map) (o : Option Heap) (h : Heap) (a : ℕ) → o ≡ Some h → may_break h a ≡ true → after_break m o a ≡ record { map = with_break m h.brk a; heap = Some (record { start = h.start; brk = a }) }

@@ -1,3 +1,5 @@
+pub mod ValueLemmas
+pub mod CellLemmas
 pub mod StateLemmas
 pub mod PinLemmas
 pub mod RunLemmas

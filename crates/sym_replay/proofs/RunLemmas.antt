@@ -12,6 +12,8 @@ use Rattle.replay_law.specs.Terms.{SymbolicState, terms_after, start_terms}
 use Rattle.replay_law.specs.Follow.{event_conditions, shown_next, follow, conditions}
 use Rattle.trace_conditions.specs.Conditions as whole
 use Rattle.path_condition.proofs.ListLemmas.{with_conditions-none}
+use Rattle.sym_replay.specs.Cells.{over_bare_cells}
+use Rattle.sym_replay.proofs.CellLemmas.{follow_bare}
 use Rattle.sym_replay.proofs.PinLemmas.{with_conditions-append}
 
 -- the events from one on begin with it
@@ -39,9 +41,11 @@ next_event n es end all k e item ts new s t before added after =
     ∙ before
 
 -- before the first event
-pub at_start : (program : Program) (run : Transcript) (ts : List Tree) (s : SymbolicState) → ts ≡ [] → s ≡ start_terms program.segments → with_conditions ts (follow norm run.n s (drop 0 run.events) run.end) ≡ whole.conditions_of program run
+pub at_start : (program : Program) (run : Transcript) (ts : List Tree) (s : SymbolicState) → ts ≡ [] → s ≡ over_bare_cells (start_terms program.segments) → with_conditions ts (follow norm run.n s (drop 0 run.events) run.end) ≡ whole.conditions_of program run
 unfolding whole.conditions_of conditions
-at_start program run ts s none start = (λ i. with_conditions (none i) (follow norm run.n (start i) (drop 0 run.events) run.end))
+at_start program run ts s none start =
+    (λ i. with_conditions (none i) (follow norm run.n (start i) (drop 0 run.events) run.end))
+    ∙ ap (with_conditions []) (follow_bare run.n run.end run.events (start_terms program.segments))
 
 drop_all : (es : List Event) (k : ℕ) → k ≡ length es → drop k es ≡ []
 drop_all [] zero e = refl

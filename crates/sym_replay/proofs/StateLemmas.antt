@@ -1,33 +1,36 @@
 -- States of the replay.
-use Rattle.std.proofs.Common.{◌≡◌, ℕ, zero, suc, ◌<◌, ◌^◌, List, [], ◌∷◌, length, set, replicate, All, Option, Some, None, Bool, true, false, cond, refl, sym, ap, ◌∙◌, arith, subst, ◌==◌, if◌then◌else◌}
+use Rattle.std.proofs.Common.{◌≡◌, ℕ, zero, suc, ◌<◌, ◌≤◌, ◌^◌, List, [], ◌∷◌, length, set, replicate, min, max, All, Option, Some, None, Bool, true, false, cond, refl, sym, ap, ◌∙◌, arith, subst, ◌==◌, if◌then◌else◌}
 use Rattle.std.specs.Ordering.{nat_cmp}
 use Rattle.std.specs.BTreeMap.{BTreeMap, get, Updates, is_at}
+use Rattle.std.proofs.lemmas.Bool.{eqb-true}
+use Rattle.std.proofs.lemmas.Grind.{common_steps}
 use Rattle.std.proofs.lemmas.List.{map-set}
 use Rattle.term_model.specs.Tree.{Tree, Const, Input}
-use Rattle.term_arena.specs.Trees.{tree_of, Extends, trees_of}
-use Rattle.normal_form.specs.Normal.{IsNormal}
-use Rattle.memory_map.specs.Cells.{next_address}
+use Rattle.term_arena.specs.Trees.{tree_of, Extends}
+use Rattle.std.specs.FinMap as finmap
+use Rattle.memory_map.specs.Cells.{Map, byte_at, can, write, with_byte, next_address}
+use Rattle.memory_map.specs.Heaps.{Space}
 use Rattle.replay_law.specs.Terms.{SymbolicState, with_tree, put_trees, input_terms}
-use Rattle.path_condition.specs.Sums.{IsNormalTermOf}
-use Rattle.path_condition.proofs.ListLemmas.{grown_trees}
 use Rattle.sym_replay.specs.declared.state.ReplayState.{ReplayState}
-use Rattle.sym_replay.specs.States.{byte_tree, terms_of, IsTermIn, IsState}
-
--- a term of an arena that has grown
-pub grown_term : (old new : List Tree) → Extends old new → (t : ℕ) → IsTermIn old t → IsTermIn new t
-grown_term old new g t h = record { belongs = omega (arith, h.belongs, g.longer); normal = subst IsNormal (sym (g.same t h.belongs)) h.normal }
+use Rattle.sym_replay.specs.declared.value.Value.{Value}
+use Rattle.sym_replay.specs.declared.value.Value.TheVariants.{Known, Term}
+use Rattle.sym_replay.specs.Cells.{without_bytes}
+use Rattle.sym_replay.specs.Values.{value_tree, IsTermIn, IsValueIn, IsValueOf}
+use Rattle.sym_replay.specs.States.{byte_tree, value_trees, terms_of, AreWithin, IsState}
+use Rattle.sym_replay.proofs.CellLemmas.{stored_bare, stored_byte}
+use Rattle.sym_replay.proofs.ValueLemmas.{grown_term, grown_value, grown_values}
 
 -- a state of an arena that has grown
 pub grown_state : (old new : List Tree) (s : ReplayState) → Extends old new → IsState old s → IsState new s
-grown_state old new s g h = record { registers = λ k d lt. grown_term old new g _ (h.registers k d lt); count = h.count; bytes = λ a t e. grown_term old new g t (h.bytes a t e) }
+grown_state old new s g h = record { registers = λ k d lt. grown_value old new g _ (h.registers k d lt); count = h.count; bytes = λ a t e. grown_term old new g t (h.bytes a t e); within = h.within }
 
 -- it stands for the same terms
 pub grown_terms : (old new : List Tree) (s : ReplayState) → Extends old new → IsState old s → terms_of new s ≡ terms_of old s
 grown_terms old new s g h = (λ i. record {
-  registers = grown_trees old new g s.registers (λ k d lt. (h.registers k d lt).belongs) i;
+  registers = grown_values old new g s.registers h.registers i;
   bytes = λ a. same_byte a (get nat_cmp s.bytes a) refl i;
   place = s.place;
-  cells = s.memory.map;
+  cells = without_bytes s.memory.map;
   heap = s.memory.heap;
 })
   where
@@ -35,48 +38,128 @@ grown_terms old new s g h = (λ i. record {
     same_byte a None e = refl
     same_byte a (Some t) e = g.same t (h.bytes a t e).belongs
 
+-- ---- terms in memory
+
+pub at_key : (a q : ℕ) → is_at (nat_cmp a) q ≡ true → q ≡ a
+at_key a q e = grind (arith, common_steps)
+
+-- no term outside of the range
+pub none_outside : (bytes : BTreeMap ℕ ℕ) (lowest highest a : ℕ) → AreWithin bytes lowest highest → (lowest ≤ a → a ≤ highest → ⊥) → None ≡ get nat_cmp bytes a
+none_outside bytes lowest highest a within out = by_look (get nat_cmp bytes a) refl
+  where
+    by_look : (o : Option ℕ) → get nat_cmp bytes a ≡ o → None ≡ o
+    by_look None e = refl
+    by_look (Some t) e = absurd (let h = within a t e in out h.0 h.1)
+
 -- one more term in memory
-pub put_state : (trees : List Tree) (s : ReplayState) (new : BTreeMap ℕ ℕ) (address t : ℕ) → IsState trees s → IsTermIn trees t → Updates nat_cmp s.bytes new address (Some t) → IsState trees (record s { bytes = new })
-put_state trees s new address t h here updates = record {
+pub put_state : (trees : List Tree) (s : ReplayState) (new : BTreeMap ℕ ℕ) (address t lowest highest : ℕ) → IsState trees s → IsTermIn trees t → Updates nat_cmp s.bytes new address (Some t) → lowest ≡ min s.lowest address → highest ≡ max s.highest address → IsState trees (record s { bytes = new; lowest = lowest; highest = highest })
+put_state trees s new address t lowest highest h here updates low high = record {
   registers = h.registers;
   count = h.count;
   bytes = λ a u e. by_test (is_at (nat_cmp address) a) a u (sym (updates.0 a) ∙ e);
+  within = λ a u e. in_range (is_at (nat_cmp address) a) a u refl (sym (updates.0 a) ∙ e);
 }
   where
     by_test : (b : Bool) (a u : ℕ) → cond b (Some t) (get nat_cmp s.bytes a) ≡ Some u → IsTermIn trees u
     by_test true a u e = let same : t ≡ u = cc in subst (IsTermIn trees) same here
     by_test false a u e = h.bytes a u e
+    in_range : (b : Bool) (a u : ℕ) → is_at (nat_cmp address) a ≡ b → cond b (Some t) (get nat_cmp s.bytes a) ≡ Some u → (lowest ≤ a) × (a ≤ highest)
+    in_range true a u at e = let same : a ≡ address = at_key address a at in (omega (arith, same, low), omega (arith, same, high))
+    in_range false a u at e = let old = h.within a u e in (omega (arith, old.0, low), omega (arith, old.1, high))
+
+-- a look-up after the term at an address is taken away
+pub forgotten : (old new : BTreeMap ℕ ℕ) (a q : ℕ) → Updates nat_cmp old new a None → get nat_cmp new q ≡ (if q == a then None else get nat_cmp old q)
+forgotten old new a q updates = updates.0 q ∙ ap (λ (b : Bool). cond b None (get nat_cmp old q)) (same_key a q)
+  where
+    same_key : (a q : ℕ) → is_at (nat_cmp a) q ≡ (q == a)
+    same_key a q = grind (arith, common_steps)
+
+-- and where there was none
+pub none_forgotten : (bytes : BTreeMap ℕ ℕ) (a q : ℕ) → None ≡ get nat_cmp bytes a → get nat_cmp bytes q ≡ (if q == a then None else get nat_cmp bytes q)
+none_forgotten bytes a q none = by_test (q == a) refl
+  where
+    by_test : (b : Bool) → (q == a) ≡ b → get nat_cmp bytes q ≡ cond b None (get nat_cmp bytes q)
+    by_test true e = ap (get nat_cmp bytes) (eqb-true q a e) ∙ sym none
+    by_test false e = refl
+
+-- a state whose terms are some of another's
+pub fewer_terms : (trees : List Tree) (s : ReplayState) (new : BTreeMap ℕ ℕ) (gone : ℕ → Bool) → IsState trees s → ((q : ℕ) → get nat_cmp new q ≡ cond (gone q) None (get nat_cmp s.bytes q)) → IsState trees (record s { bytes = new })
+fewer_terms trees s new gone h left = record {
+  registers = h.registers;
+  count = h.count;
+  bytes = λ a t e. h.bytes a t (still a t e);
+  within = λ a t e. h.within a t (still a t e);
+}
+  where
+    by_test : (b : Bool) (a t : ℕ) → cond b None (get nat_cmp s.bytes a) ≡ Some t → get nat_cmp s.bytes a ≡ Some t
+    by_test true a t e = cc
+    by_test false a t e = e
+    still : (a t : ℕ) → get nat_cmp new a ≡ Some t → get nat_cmp s.bytes a ≡ Some t
+    still a t e = by_test (gone a) a t (sym (left a) ∙ e)
+
+-- memory's bytes say nothing of a state's terms
+pub other_memory : (trees : List Tree) (s : ReplayState) (memory : Space) → IsState trees s → IsState trees (record s { memory = memory })
+other_memory trees s memory h = record { registers = h.registers; count = h.count; bytes = h.bytes; within = h.within }
+
+-- the tree at an address, where some terms are gone and the bytes there are new
+pub replaced : (trees : List Tree) (m new : Map) (q v : ℕ) (o n : Option ℕ) (t : Bool) → n ≡ cond t None o → byte_at new q ≡ cond t v (byte_at m q) → byte_tree trees new q n ≡ cond t (Const v) (byte_tree trees m q o)
+replaced trees m new q v o n true e is = ap (byte_tree trees new q) e ∙ ap Const is
+replaced trees m new q v None n false e same = ap (byte_tree trees new q) e ∙ ap Const same
+replaced trees m new q v (Some u) n false e same = ap (byte_tree trees new q) e
+
+-- the value of a byte that is a term
+pub term_byte : (trees : List Tree) (s : ReplayState) (a t : ℕ) → IsState trees s → Some t ≡ get nat_cmp s.bytes a → IsValueOf trees (byte_tree trees s.memory.map a (get nat_cmp s.bytes a)) (Term t)
+term_byte trees s a t h e = record { within = h.bytes a t (sym e); is = ap (byte_tree trees s.memory.map a) e }
+
+-- and of one that is none
+pub known_byte : (trees : List Tree) (s : ReplayState) (a b : ℕ) → b < 2 ^ 32 → b ≡ byte_at s.memory.map a → None ≡ get nat_cmp s.bytes a → IsValueOf trees (byte_tree trees s.memory.map a (get nat_cmp s.bytes a)) (Known b)
+known_byte trees s a b lt e none = record { within = lt; is = ap Const e ∙ ap (byte_tree trees s.memory.map a) none }
+
+-- ---- registers
 
 -- a property of each element, and of one that is put among them
-pub all_set : (P : ℕ → Type 0) (xs : List ℕ) (i v : ℕ) → P v → All P xs → All P (set xs i v)
+pub all_set : {A : Type 0} (P : A → Type 0) (xs : List A) (i : ℕ) (v : A) → P v → All P xs → All P (set xs i v)
 all_set P [] i v h each k d lt = absurd (omega arith)
 all_set P (x ∷ xs) zero v h each zero d lt = h
 all_set P (x ∷ xs) zero v h each (suc k) d lt = each (suc k) d (omega arith)
 all_set P (x ∷ xs) (suc i) v h each zero d lt = each 0 d (omega arith)
 all_set P (x ∷ xs) (suc i) v h each (suc k) d lt = all_set P xs i v h (λ j e l. each (suc j) e (omega arith)) k d (omega arith)
 
-pub all_same : (P : ℕ → Type 0) (n v : ℕ) → P v → All P (replicate n v)
+pub all_same : {A : Type 0} (P : A → Type 0) (n : ℕ) (v : A) → P v → All P (replicate n v)
 all_same P zero v h k d lt = absurd (omega arith)
 all_same P (suc n) v h zero d lt = h
 all_same P (suc n) v h (suc k) d lt = all_same P n v h k d (omega arith)
 
--- registers with another term in one
-pub put_registers : (trees : List Tree) (rs : List ℕ) (r t : ℕ) → (r == 0) ≡ false → trees_of trees (set rs r t) ≡ (if r == 0 then trees_of trees rs else set (trees_of trees rs) r (tree_of trees t))
-put_registers trees rs r t far = map-set (tree_of trees) rs r t ∙ ap (λ (b : Bool). if b then trees_of trees rs else set (trees_of trees rs) r (tree_of trees t)) (sym far)
+-- registers with another value in one
+pub put_registers : (trees : List Tree) (rs : List Value) (r : ℕ) (v : Value) → (r == 0) ≡ false → value_trees trees (set rs r v) ≡ (if r == 0 then value_trees trees rs else set (value_trees trees rs) r (value_tree trees v))
+put_registers trees rs r v far = map-set (value_tree trees) rs r v ∙ ap (λ (b : Bool). if b then value_trees trees rs else set (value_trees trees rs) r (value_tree trees v)) (sym far)
 
--- a constant of the arena
-pub constant_term : (trees : List Tree) (t v : ℕ) → t < length trees → tree_of trees t ≡ Const v → v < 2 ^ 32 → IsTermIn trees t
-constant_term trees t v lt e word = record { belongs = lt; normal = subst IsNormal (sym e) word }
-
--- a term that was put at an address
-pub found_term : (trees : List Tree) (s : ReplayState) (a t : ℕ) → IsState trees s → (o : Option ℕ) → Some t ≡ o → get nat_cmp s.bytes a ≡ o → IsNormalTermOf trees (byte_tree trees s.memory.map a o) t
-found_term trees s a t h o e f =
-    subst (λ (p : Option ℕ). IsNormalTermOf trees (byte_tree trees s.memory.map a p) t) e
-    (let here = h.bytes a t (f ∙ sym e) in record { belongs = here.belongs; is = refl; normal = here.normal })
+-- ---- terms
 
 -- terms with others in memory
 abbrev pub with_bytes : SymbolicState → (ℕ → Tree) → SymbolicState
 with_bytes s bytes = record s { bytes = bytes }
+
+-- a number in memory, where it may be written, and no term there
+pub number_put : (trees : List Tree) (s : ReplayState) (new : BTreeMap ℕ ℕ) (memory : Space) (a b : ℕ) → can write (finmap.get s.memory.map a) ≡ true → memory ≡ record s.memory { map = with_byte s.memory.map a b (finmap.get s.memory.map a) } → ((q : ℕ) → get nat_cmp new q ≡ (if q == a then None else get nat_cmp s.bytes q)) → terms_of trees (record s { bytes = new; memory = memory }) ≡ with_bytes (terms_of trees s) (with_tree (terms_of trees s).bytes a (Const b))
+number_put trees s new memory a b may stored left = (λ i. record {
+  registers = value_trees trees s.registers;
+  bytes = λ q. byte q i;
+  place = s.place;
+  cells = cells i;
+  heap = (stored i).heap;
+})
+  where
+    after : Map
+    after = with_byte s.memory.map a b (finmap.get s.memory.map a)
+    byte : (q : ℕ) → byte_tree trees memory.map q (get nat_cmp new q) ≡ with_tree (terms_of trees s).bytes a (Const b) q
+    byte q = (λ i. byte_tree trees (stored i).map q (get nat_cmp new q)) ∙ replaced trees s.memory.map after q b (get nat_cmp s.bytes q) (get nat_cmp new q) (q == a) (left q) (stored_byte s.memory.map a b q may)
+    cells : without_bytes memory.map ≡ without_bytes s.memory.map
+    cells = (λ i. without_bytes (stored i).map) ∙ stored_bare s.memory.map a b
+
+-- the state with it
+pub number_state : (trees : List Tree) (s : ReplayState) (new : BTreeMap ℕ ℕ) (memory : Space) (a : ℕ) → ((q : ℕ) → get nat_cmp new q ≡ (if q == a then None else get nat_cmp s.bytes q)) → IsState trees s → IsState trees (record s { bytes = new; memory = memory })
+number_state trees s new memory a left h = other_memory trees (record s { bytes = new }) memory (fewer_terms trees s new (λ q. q == a) h left)
 
 -- two bytes put one after the other
 pub put_two : (s : SymbolicState) (a : ℕ) (first second : Tree) (t u : SymbolicState) → t ≡ with_bytes s (with_tree s.bytes a first) → u ≡ with_bytes t (with_tree t.bytes (next_address a) second) → u ≡ with_bytes s (put_trees s.bytes a (first ∷ second ∷ []))
@@ -91,10 +174,6 @@ put_four s a first second third fourth t u v e f g =
     ∙ (λ i. with_bytes (f i) (with_tree (f i).bytes (next_address (next_address (next_address a))) fourth))
     ∙ (λ i. with_bytes (e i) (with_tree (with_tree (e i).bytes (next_address (next_address a)) third) (next_address (next_address (next_address a))) fourth))
 
--- an arena that has grown twice
-pub further : (old now new : List Tree) → Extends old now → Extends now new → Extends old new
-further old now new g h = record { longer = omega (arith, g.longer, h.longer); same = λ t lt. h.same t (omega (arith, g.longer)) ∙ g.same t lt }
-
 -- one more byte of the input is put
 pub next_input : (bytes after : ℕ → Tree) (all : ℕ → Tree) (at place n m : ℕ) → put_trees bytes at (input_terms place n) ≡ all → n ≡ suc m → after ≡ with_tree bytes at (Input place) → put_trees after (next_address at) (input_terms (suc place) m) ≡ all
 unfolding put_trees input_terms
@@ -108,4 +187,4 @@ no_input bytes all at place n e none = sym (λ i. put_trees bytes at (input_term
 
 -- the place of a state says nothing of its terms
 pub placed_state : (trees : List Tree) (s : ReplayState) (place : ℕ) → IsState trees s → IsState trees (record s { place = place })
-placed_state trees s place h = record { registers = h.registers; count = h.count; bytes = h.bytes }
+placed_state trees s place h = record { registers = h.registers; count = h.count; bytes = h.bytes; within = h.within }

@@ -1,3 +1,5 @@
+pub mod Values
+pub mod Cells
 pub mod States
 pub mod Replies
 pub mod Pins

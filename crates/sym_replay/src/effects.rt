@@ -6,7 +6,6 @@ ghost use Rattle.term_model.specs.declared.Op.TheVariants.{Alu};
 ghost use Rattle.term_model.specs.Tree.{Tree, Const};
 ghost use Rattle.term_arena.specs.Trees.{tree_of, Extends};
 ghost use Rattle.normal_form.specs.Norm.{norm};
-ghost use Rattle.normal_form.specs.Normal.{IsNormal};
 ghost use Rattle.memory_map.specs.Cells.{next_address};
 ghost use Rattle.rv_decode.specs.Rows.{IsWellFormed};
 ghost use Rattle.rv_decode.specs.Table.{decoded};
@@ -14,30 +13,28 @@ ghost use Rattle.rv_machine.specs.State.{bits as bits_of};
 ghost use Rattle.replay_law.specs.Terms.{reg_term, put_reg, put_trees, with_tree};
 ghost use Rattle.replay_law.specs.Terms as definitions;
 ghost use Rattle.replay_law.specs.Forms.{byte_term as byte_of_term};
-ghost use Rattle.path_condition.specs.Sums.{IsNormalTermOf};
 ghost use Rattle.sym_replay.specs.Replies.{reply_of, moved, IsOfHeap};
-ghost use Rattle.sym_replay.specs.States.{terms_of, register_tree, IsTermIn, IsState};
+ghost use Rattle.sym_replay.specs.Values.{value_tree, IsValueIn, IsValueOf};
+ghost use Rattle.sym_replay.specs.States.{terms_of, register_tree, IsState};
 
 use crate::calls::{Reply, reply_to};
 use crate::state::ReplayState;
+use crate::value::{Value, made};
 use no_memory::NoMemory;
-use path_condition::byte_term;
 use rv_decode::{Instr, Width};
 use rv_event::Event;
 use rv_word::AluOp;
-use simplify::make;
-use term_arena::{Arena, Op, Term};
+use term_arena::{Arena, Op};
 
-/// A term whose sign stands `distance` bits below bit 31, extended.
-fn extended(arena: &mut Arena, t: Term, distance: u32) -> Result<Term, NoMemory>
-    requires belongs { t < length arena.old }
-    requires normal { IsNormal (tree_of arena.old t) }
-    ensures term { IfOk result (IsNormalTermOf arena.new (definitions.extended_term norm distance (tree_of arena.old t))) }
+/// A value whose sign stands `distance` bits below bit 31, extended.
+fn extended(arena: &mut Arena, v: &Value, distance: u32) -> Result<Value, NoMemory>
+    requires { IsValueIn arena.old v.now }
+    ensures value { IfOk result (IsValueOf arena.new (definitions.extended_term norm distance (value_tree arena.old v.now))) }
     ensures keeps { Extends arena.old arena.new }
 {
-    let amount = arena.constant(distance)?;
-    let left = make(arena, Op::Alu(AluOp::Sll), t, amount)?;
-    make(arena, Op::Alu(AluOp::Sra), left, amount)
+    let amount = Value::Known(distance);
+    let left = made(arena, Op::Alu(AluOp::Sll), v, &amount)?;
+    made(arena, Op::Alu(AluOp::Sra), &left, &amount)
 }
 
 /// An integer as a word, in two's complement.
@@ -49,110 +46,110 @@ pub(crate) fn bits(integer: i32) -> u32
 }
 
 impl ReplayState {
-    /// The term of the half word at an address.
-    #[tactic(auto, using(crate::proofs::StateLemmas::grown_state, crate::proofs::StateLemmas::grown_terms))]
-    fn half(&self, arena: &mut Arena, address: u32) -> Result<Term, NoMemory>
+    /// The half word at an address.
+    fn half(&self, arena: &mut Arena, address: u32) -> Result<Value, NoMemory>
         requires { IsState arena.old self.now }
-        ensures term { IfOk result (IsNormalTermOf arena.new (definitions.half_term norm (terms_of arena.old self.now).bytes address)) }
+        ensures value { IfOk result (IsValueOf arena.new (definitions.half_term norm (terms_of arena.old self.now).bytes address)) }
         ensures keeps { Extends arena.old arena.new }
     {
-        let low = self.byte(arena, address)?;
-        let high = self.byte(arena, address.wrapping_add(1))?;
-        make(arena, Op::Pair, low, high)
+        let low = self.byte(arena, address);
+        let high = self.byte(arena, address.wrapping_add(1));
+        made(arena, Op::Pair, &low, &high)
     }
 
-    /// The term of what a load gives.
+    /// What a load gives.
     #[tactic(auto, using(crate::proofs::StateLemmas::grown_state, crate::proofs::StateLemmas::grown_terms))]
     pub(crate) fn loaded(
         &self,
         arena: &mut Arena,
         width: Width,
         address: u32,
-    ) -> Result<Term, NoMemory>
+    ) -> Result<Value, NoMemory>
         requires { IsState arena.old self.now }
-        ensures term { IfOk result (IsNormalTermOf arena.new (definitions.loaded_term norm (terms_of arena.old self.now).bytes width address)) }
+        ensures value { IfOk result (IsValueOf arena.new (definitions.loaded_term norm (terms_of arena.old self.now).bytes width address)) }
         ensures keeps { Extends arena.old arena.new }
     {
         match width {
             Width::B => {
-                let byte = self.byte(arena, address)?;
-                extended(arena, byte, 24)
+                let byte = self.byte(arena, address);
+                extended(arena, &byte, 24)
             }
-            Width::Bu => self.byte(arena, address),
+            Width::Bu => Ok(self.byte(arena, address)),
             Width::H => {
                 let half = self.half(arena, address)?;
-                extended(arena, half, 16)
+                extended(arena, &half, 16)
             }
             Width::Hu => self.half(arena, address),
             Width::W => {
                 let low = self.half(arena, address)?;
                 let high = self.half(arena, address.wrapping_add(2))?;
-                make(arena, Op::Half, low, high)
+                made(arena, Op::Half, &low, &high)
             }
         }
     }
 
-    /// Puts byte `k` of a term at an address.
+    /// Puts byte `k` of a value at an address.
     #[tactic(auto, using(crate::proofs::StateLemmas::grown_state, crate::proofs::StateLemmas::grown_terms))]
     fn store_byte(
         &mut self,
         arena: &mut Arena,
         address: u32,
-        t: Term,
+        v: &Value,
         k: u8,
     ) -> Result<(), NoMemory>
         requires state { IsState arena.old self.old }
-        requires term { IsTermIn arena.old t }
+        requires value { IsValueIn arena.old v.now }
         requires byte { k < 4 }
         ensures state { OnOk result (IsState arena.new self.new) }
         ensures terms { OnOk result (terms_of arena.new self.new
             ≡ record (terms_of arena.old self.old) {
               bytes = with_tree (terms_of arena.old self.old).bytes address
-                  (byte_of_term norm k (tree_of arena.old t));
+                  (byte_of_term norm k (value_tree arena.old v.now));
             }) }
         ensures place { self.new.place ≡ self.old.place }
         ensures keeps { Extends arena.old arena.new }
     {
-        let byte = byte_term(arena, t, k)?;
-        self.put_byte(address, byte)
+        let number = Value::Known(u32::from(k));
+        let byte = made(arena, Op::Byte, v, &number)?;
+        self.put_byte(arena, address, &byte)
     }
 
-    /// Puts the two lower bytes of a term at the addresses from one up.
-    #[tactic(auto, using(crate::proofs::StateLemmas::grown_term), unfolding(replay_law::specs::Terms::put_trees))]
-    fn store_half(&mut self, arena: &mut Arena, address: u32, t: Term) -> Result<(), NoMemory>
+    /// Puts the two lower bytes of a value at the addresses from one up.
+    #[tactic(auto, using(crate::proofs::ValueLemmas::grown_value), unfolding(replay_law::specs::Terms::put_trees))]
+    fn store_half(&mut self, arena: &mut Arena, address: u32, v: &Value) -> Result<(), NoMemory>
         requires state { IsState arena.old self.old }
-        requires term { IsTermIn arena.old t }
+        requires value { IsValueIn arena.old v.now }
         ensures state { OnOk result (IsState arena.new self.new) }
         ensures terms { OnOk result (terms_of arena.new self.new
             ≡ record (terms_of arena.old self.old) {
               bytes = put_trees (terms_of arena.old self.old).bytes address
-                  (definitions.stored_terms norm Width.H (tree_of arena.old t));
+                  (definitions.stored_terms norm Width.H (value_tree arena.old v.now));
             }) }
         ensures place { self.new.place ≡ self.old.place }
         ensures keeps { Extends arena.old arena.new }
     {
-        self.store_byte(arena, address, t, 0)?;
-        self.store_byte(arena, address.wrapping_add(1), t, 1)
+        self.store_byte(arena, address, v, 0)?;
+        self.store_byte(arena, address.wrapping_add(1), v, 1)
     }
 
-    /// Puts the four bytes of a term at the addresses from one up.
-    #[tactic(auto, using(crate::proofs::StateLemmas::grown_term), unfolding(replay_law::specs::Terms::put_trees))]
-    fn store_word(&mut self, arena: &mut Arena, address: u32, t: Term) -> Result<(), NoMemory>
+    /// Puts the four bytes of a value at the addresses from one up.
+    #[tactic(auto, using(crate::proofs::ValueLemmas::grown_value), unfolding(replay_law::specs::Terms::put_trees))]
+    fn store_word(&mut self, arena: &mut Arena, address: u32, v: &Value) -> Result<(), NoMemory>
         requires state { IsState arena.old self.old }
-        requires term { IsTermIn arena.old t }
+        requires value { IsValueIn arena.old v.now }
         ensures state { OnOk result (IsState arena.new self.new) }
         ensures terms { OnOk result (terms_of arena.new self.new
             ≡ record (terms_of arena.old self.old) {
               bytes = put_trees (terms_of arena.old self.old).bytes address
-                  (definitions.stored_terms norm Width.W (tree_of arena.old t));
+                  (definitions.stored_terms norm Width.W (value_tree arena.old v.now));
             }) }
         ensures place { self.new.place ≡ self.old.place }
         ensures keeps { Extends arena.old arena.new }
     {
         let third = address.wrapping_add(1).wrapping_add(1);
-        self.store_half(arena, address, t)?;
-        self.store_byte(arena, third, t, 2)?;
-        self.store_byte(arena, third.wrapping_add(1), t, 3)
+        self.store_half(arena, address, v)?;
+        self.store_byte(arena, third, v, 2)?;
+        self.store_byte(arena, third.wrapping_add(1), v, 3)
     }
 
     /// Puts what a store moves at the addresses from one up.
@@ -162,23 +159,23 @@ impl ReplayState {
         arena: &mut Arena,
         width: Width,
         address: u32,
-        t: Term,
+        v: &Value,
     ) -> Result<(), NoMemory>
         requires state { IsState arena.old self.old }
-        requires term { IsTermIn arena.old t }
+        requires value { IsValueIn arena.old v.now }
         ensures state { OnOk result (IsState arena.new self.new) }
         ensures terms { OnOk result (terms_of arena.new self.new
             ≡ record (terms_of arena.old self.old) {
               bytes = put_trees (terms_of arena.old self.old).bytes address
-                  (definitions.stored_terms norm width (tree_of arena.old t));
+                  (definitions.stored_terms norm width (value_tree arena.old v.now));
             }) }
         ensures place { self.new.place ≡ self.old.place }
         ensures keeps { Extends arena.old arena.new }
     {
         match width {
-            Width::B | Width::Bu => self.store_byte(arena, address, t, 0),
-            Width::H | Width::Hu => self.store_half(arena, address, t),
-            Width::W => self.store_word(arena, address, t),
+            Width::B | Width::Bu => self.store_byte(arena, address, v, 0),
+            Width::H | Width::Hu => self.store_half(arena, address, v),
+            Width::W => self.store_word(arena, address, v),
         }
     }
 
@@ -204,90 +201,64 @@ impl ReplayState {
         let mut at = address;
         for _k in 0..count {
             let byte = arena.input(self.place)?;
-            self.put_byte(at, byte)?;
+            self.put_term(at, byte)?;
             self.place += 1;
             at = at.wrapping_add(1);
         }
         Ok(())
     }
 
-    /// The term of a register and an immediate: a data address, or a target before its lowest bit is cleared.
+    /// The sum of a register and an immediate: a data address, or a target before its lowest bit is cleared.
     pub(crate) fn sum(
         &self,
         arena: &mut Arena,
         register: u8,
         immediate: u32,
-    ) -> Result<Term, NoMemory>
+    ) -> Result<Value, NoMemory>
         requires state { IsState arena.old self.now }
         requires register { register < 32 }
-        ensures term { IfOk result (IsNormalTermOf arena.new (norm (Alu Add) (register_tree arena.old self.now register) (Const immediate))) }
+        ensures value { IfOk result (IsValueOf arena.new (norm (Alu Add) (register_tree arena.old self.now register) (Const immediate))) }
         ensures keeps { Extends arena.old arena.new }
     {
         let base = self.register(arena, register);
-        let constant = arena.constant(immediate)?;
-        make(arena, Op::Alu(AluOp::Add), base, constant)
+        let added = Value::Known(immediate);
+        made(arena, Op::Alu(AluOp::Add), &base, &added)
     }
 
-    /// Puts a constant into a register.
-    fn put_constant(&mut self, arena: &mut Arena, register: u8, value: u32) -> Result<(), NoMemory>
-        requires state { IsState arena.old self.old }
+    /// Puts a number into a register.
+    fn put_constant(&mut self, arena: &Arena, register: u8, value: u32)
+        requires state { IsState arena.now self.old }
         requires register { register < 32 }
-        ensures state { OnOk result (IsState arena.new self.new) }
-        ensures terms { OnOk result (terms_of arena.new self.new
-            ≡ put_reg register (Const value) (terms_of arena.old self.old)) }
+        ensures state { IsState arena.now self.new }
+        ensures terms { terms_of arena.now self.new ≡ put_reg register (Const value) (terms_of arena.now self.old) }
         ensures place { self.new.place ≡ self.old.place }
-        ensures keeps { Extends arena.old arena.new }
     {
-        let t = arena.constant(value)?;
-        self.put(register, t);
-        Ok(())
+        let _ = arena;
+        self.put(register, Value::Known(value));
     }
 
-    /// Puts the result of an operation on two terms into a register.
+    /// Puts the result of an operation on two values into a register.
     fn put_made(
         &mut self,
         arena: &mut Arena,
         register: u8,
         op: AluOp,
-        a: Term,
-        b: Term,
+        a: &Value,
+        b: &Value,
     ) -> Result<(), NoMemory>
         requires state { IsState arena.old self.old }
         requires register { register < 32 }
-        requires first { IsTermIn arena.old a }
-        requires second { IsTermIn arena.old b }
+        requires first { IsValueIn arena.old a.now }
+        requires second { IsValueIn arena.old b.now }
         ensures state { OnOk result (IsState arena.new self.new) }
         ensures terms { OnOk result (terms_of arena.new self.new
-            ≡ put_reg register (norm (Alu op) (tree_of arena.old a) (tree_of arena.old b)) (terms_of arena.old self.old)) }
+            ≡ put_reg register (norm (Alu op) (value_tree arena.old a.now) (value_tree arena.old b.now)) (terms_of arena.old self.old)) }
         ensures place { self.new.place ≡ self.old.place }
         ensures keeps { Extends arena.old arena.new }
     {
-        let t = make(arena, Op::Alu(op), a, b)?;
-        self.put(register, t);
+        let v = made(arena, Op::Alu(op), a, b)?;
+        self.put(register, v);
         Ok(())
-    }
-
-    /// Puts the result of an operation on a register and an immediate into a register.
-    fn put_immediate(
-        &mut self,
-        arena: &mut Arena,
-        register: u8,
-        op: AluOp,
-        first: u8,
-        immediate: u32,
-    ) -> Result<(), NoMemory>
-        requires state { IsState arena.old self.old }
-        requires register { register < 32 }
-        requires first { first < 32 }
-        ensures state { OnOk result (IsState arena.new self.new) }
-        ensures terms { OnOk result (terms_of arena.new self.new
-            ≡ put_reg register (norm (Alu op) (register_tree arena.old self.old first) (Const immediate)) (terms_of arena.old self.old)) }
-        ensures place { self.new.place ≡ self.old.place }
-        ensures keeps { Extends arena.old arena.new }
-    {
-        let constant = arena.constant(immediate)?;
-        let a = self.register(arena, first);
-        self.put_made(arena, register, op, a, constant)
     }
 
     /// Puts what a load gives into a register.
@@ -306,8 +277,8 @@ impl ReplayState {
         ensures place { self.new.place ≡ self.old.place }
         ensures keeps { Extends arena.old arena.new }
     {
-        let t = self.loaded(arena, width, address)?;
-        self.put(register, t);
+        let v = self.loaded(arena, width, address)?;
+        self.put(register, v);
         Ok(())
     }
 
@@ -323,14 +294,19 @@ impl ReplayState {
         ensures keeps { Extends arena.old arena.new }
     {
         match reply {
-            Reply::Answers(value) => self.put_constant(arena, 10, value),
+            Reply::Answers(value) => {
+                self.put_constant(arena, 10, value);
+                Ok(())
+            }
             Reply::Moves(count) => {
                 self.read(arena, event.call[2], count)?;
-                self.put_constant(arena, 10, count)
+                self.put_constant(arena, 10, count);
+                Ok(())
             }
             Reply::Breaks(heap, address) => {
                 self.move_break(heap, address);
-                self.put_constant(arena, 10, address)
+                self.put_constant(arena, 10, address);
+                Ok(())
             }
             Reply::Exits(_) => Ok(()),
         }
@@ -368,15 +344,21 @@ impl ReplayState {
         ensures keeps { Extends arena.old arena.new }
     {
         match instr {
-            Instr::Lui { rd, imm } => self.put_constant(arena, rd, bits(imm)),
+            Instr::Lui { rd, imm } => {
+                self.put_constant(arena, rd, bits(imm));
+                Ok(())
+            }
             Instr::Auipc { rd, imm } => {
-                self.put_constant(arena, rd, event.pc.wrapping_add(bits(imm)))
+                self.put_constant(arena, rd, event.pc.wrapping_add(bits(imm)));
+                Ok(())
             }
             Instr::Jal { rd, offset: _ } => {
-                self.put_constant(arena, rd, event.pc.wrapping_add(4))
+                self.put_constant(arena, rd, event.pc.wrapping_add(4));
+                Ok(())
             }
             Instr::Jalr { rd, rs1: _, imm: _ } => {
-                self.put_constant(arena, rd, event.pc.wrapping_add(4))
+                self.put_constant(arena, rd, event.pc.wrapping_add(4));
+                Ok(())
             }
             Instr::Branch { .. } => Ok(()),
             Instr::Load {
@@ -391,16 +373,18 @@ impl ReplayState {
                 rs2,
                 imm: _,
             } => {
-                let t = self.register(arena, rs2);
-                self.store(arena, width, event.addr, t)
+                let v = self.register(arena, rs2);
+                self.store(arena, width, event.addr, &v)
             }
             Instr::AluImm { op, rd, rs1, imm } => {
-                self.put_immediate(arena, rd, op, rs1, bits(imm))
+                let a = self.register(arena, rs1);
+                let b = Value::Known(bits(imm));
+                self.put_made(arena, rd, op, &a, &b)
             }
             Instr::AluReg { op, rd, rs1, rs2 } => {
                 let a = self.register(arena, rs1);
                 let b = self.register(arena, rs2);
-                self.put_made(arena, rd, op, a, b)
+                self.put_made(arena, rd, op, &a, &b)
             }
             Instr::Fence { .. } => Ok(()),
             Instr::Ecall => self.call(arena, n, event),

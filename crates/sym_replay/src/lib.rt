@@ -6,6 +6,7 @@ mod calls;
 mod effects;
 mod pins;
 mod state;
+mod value;
 mod whole;
 
 pub use whole::replay;

@@ -1,12 +1,11 @@
 //! What the events of a run ask of another input.
 
-ghost use Rattle.std.specs.Prelude.{◌≡◌, ◌<◌, ◌≤◌, ◌+◌, ◌-◌, ◌^◌, ℕ, List, length, IfOk, OnOk, IfSome, slice_index, if◌then◌else◌, ◌==◌, ◌++◌, []};
+ghost use Rattle.std.specs.Prelude.{◌≡◌, ◌<◌, ◌≤◌, ◌+◌, ◌-◌, ◌^◌, ℕ, List, length, IfOk, OnOk, IfSome, slice_index, if◌then◌else◌, ◌==◌, ◌++◌, [], true};
 ghost use Rattle.rv_word.specs.declared.AluOp.TheVariants.{Add};
 ghost use Rattle.term_model.specs.declared.Op.TheVariants.{Alu};
 ghost use Rattle.term_model.specs.Tree.{Tree, Const};
-ghost use Rattle.term_arena.specs.Trees.{tree_of, Extends, trees_of};
+ghost use Rattle.term_arena.specs.Trees.{Extends, trees_of};
 ghost use Rattle.normal_form.specs.Norm.{norm};
-ghost use Rattle.normal_form.specs.Normal.{IsNormal};
 ghost use Rattle.term_model.specs.ByteNumber.{TakesByteNumber};
 ghost use Rattle.memory_map.specs.Cells.{next_address};
 ghost use Rattle.rv_decode.specs.Rows.{IsWellFormed};
@@ -18,80 +17,176 @@ ghost use Rattle.replay_law.specs.Terms as definitions;
 ghost use Rattle.replay_law.specs.Follow.{fetched_byte, fetch_conditions, row_conditions, instr_conditions, event_conditions};
 ghost use Rattle.rv_decode.specs.Table.{decoded};
 ghost use Rattle.path_condition.specs.Listed.{Belong};
-ghost use Rattle.path_condition.specs.Sums.{IsNormalTermOf};
-ghost use Rattle.sym_replay.specs.States.{terms_of, register_tree, IsTermIn, IsState};
-ghost use Rattle.sym_replay.specs.Pins.{call_conditions};
+ghost use Rattle.sym_replay.specs.Values.{value_tree, IsValueIn};
+ghost use Rattle.sym_replay.specs.States.{terms_of, register_tree, IsState};
+ghost use Rattle.sym_replay.specs.Pins.{Adds, call_conditions, IsTarget, IsKnownTarget};
 
 use crate::effects::bits;
 use crate::state::ReplayState;
+use crate::value::{Value, are_same_number, made};
 use no_memory::NoMemory;
 use path_condition::Conditions;
 use rv_decode::{Cond, Instr};
 use rv_event::{Event, EventKind};
 use rv_word::{AluOp, byte_of};
-use simplify::make;
-use term_arena::{Arena, Op, Term};
+use term_arena::{Arena, Op};
 
-/// Adds that a truth term is 0.
-fn add_fails(conditions: &mut Conditions, arena: &mut Arena, t: Term) -> Result<(), NoMemory>
+/// Whether a number is a target once its lowest bit is cleared.
+fn is_target(sum: u32, target: u32) -> bool
+    ensures { result ≡ true → IsTarget sum target }
+{
+    byte_of(0, sum) & 0xfe == byte_of(0, target)
+        && byte_of(1, sum) == byte_of(1, target)
+        && byte_of(2, sum) == byte_of(2, target)
+        && byte_of(3, sum) == byte_of(3, target)
+}
+
+/// Whether a value is known to be a target once its lowest bit is cleared.
+fn is_known_target(sum: &Value, target: u32) -> bool
+    ensures { result ≡ true → IsKnownTarget sum.now target }
+{
+    match sum {
+        Value::Known(word) => is_target(*word, target),
+        Value::Term(_) => false,
+    }
+}
+
+/// Adds that a truth value is 1.
+fn add_holds(conditions: &mut Conditions, arena: &mut Arena, v: &Value) -> Result<(), NoMemory>
     requires listed { Belong arena.old conditions.old }
-    requires term { IsTermIn arena.old t }
-    ensures trees { OnOk result (trees_of arena.new conditions.new
-        ≡ with_conditions (trees_of arena.old conditions.old) (forms.fails norm (tree_of arena.old t))) }
+    requires value { IsValueIn arena.old v.now }
+    ensures trees { OnOk result (Adds arena.old conditions.old (forms.succeeds (value_tree arena.old v.now)) arena.new conditions.new) }
     ensures listed { Belong arena.new conditions.new }
     ensures keeps { Extends arena.old arena.new }
 {
-    let zero = arena.constant(0)?;
-    let fails = make(arena, Op::Eq, t, zero)?;
-    conditions.add_holds(arena, fails)
+    if v.is_number(1) {
+        return Ok(());
+    }
+    let t = v.interned(arena)?;
+    conditions.add_holds(arena, t)
 }
 
-/// Adds that a comparison of two terms holds, or that it doesn't.
+/// Adds that a truth value is 0.
+fn add_fails(conditions: &mut Conditions, arena: &mut Arena, v: &Value) -> Result<(), NoMemory>
+    requires listed { Belong arena.old conditions.old }
+    requires value { IsValueIn arena.old v.now }
+    ensures trees { OnOk result (Adds arena.old conditions.old (forms.fails norm (value_tree arena.old v.now)) arena.new conditions.new) }
+    ensures listed { Belong arena.new conditions.new }
+    ensures keeps { Extends arena.old arena.new }
+{
+    let zero = Value::Known(0);
+    let fails = made(arena, Op::Eq, v, &zero)?;
+    add_holds(conditions, arena, &fails)
+}
+
+/// Adds that two values are equal.
+fn add_equal(
+    conditions: &mut Conditions,
+    arena: &mut Arena,
+    a: &Value,
+    b: &Value,
+) -> Result<(), NoMemory>
+    requires listed { Belong arena.old conditions.old }
+    requires first { IsValueIn arena.old a.now }
+    requires second { IsValueIn arena.old b.now }
+    ensures trees { OnOk result (Adds arena.old conditions.old
+        (forms.equal norm (value_tree arena.old a.now) (value_tree arena.old b.now)) arena.new conditions.new) }
+    ensures listed { Belong arena.new conditions.new }
+    ensures keeps { Extends arena.old arena.new }
+{
+    if are_same_number(a, b) {
+        return Ok(());
+    }
+    let first = a.interned(arena)?;
+    let second = b.interned(arena)?;
+    conditions.add_equal(arena, first, second)
+}
+
+/// Adds that a value is a number.
+fn add_pin(
+    conditions: &mut Conditions,
+    arena: &mut Arena,
+    v: &Value,
+    number: u32,
+) -> Result<(), NoMemory>
+    requires listed { Belong arena.old conditions.old }
+    requires value { IsValueIn arena.old v.now }
+    ensures trees { OnOk result (Adds arena.old conditions.old (forms.pin norm (value_tree arena.old v.now) number) arena.new conditions.new) }
+    ensures listed { Belong arena.new conditions.new }
+    ensures keeps { Extends arena.old arena.new }
+{
+    if v.is_number(number) {
+        return Ok(());
+    }
+    let t = v.interned(arena)?;
+    conditions.add_pin(arena, t, number)
+}
+
+/// Adds that a sum is a target once its lowest bit is cleared.
+fn add_target(
+    conditions: &mut Conditions,
+    arena: &mut Arena,
+    sum: &Value,
+    target: u32,
+) -> Result<(), NoMemory>
+    requires listed { Belong arena.old conditions.old }
+    requires value { IsValueIn arena.old sum.now }
+    ensures trees { OnOk result (Adds arena.old conditions.old (forms.target norm (value_tree arena.old sum.now) target) arena.new conditions.new) }
+    ensures listed { Belong arena.new conditions.new }
+    ensures keeps { Extends arena.old arena.new }
+{
+    if is_known_target(sum, target) {
+        return Ok(());
+    }
+    let t = sum.interned(arena)?;
+    conditions.add_target(arena, t, target)
+}
+
+/// Adds that a comparison of two values holds, or that it doesn't.
 fn add_comparison(
     conditions: &mut Conditions,
     arena: &mut Arena,
     op: Op,
-    a: Term,
-    b: Term,
+    a: &Value,
+    b: &Value,
     holds: bool,
 ) -> Result<(), NoMemory>
     requires listed { Belong arena.old conditions.old }
-    requires first { IsTermIn arena.old a }
-    requires second { IsTermIn arena.old b }
-    requires comparison { TakesByteNumber op (tree_of arena.old b) }
-    ensures trees { OnOk result (trees_of arena.new conditions.new
-        ≡ with_conditions (trees_of arena.old conditions.old) (if holds then forms.succeeds (norm op (tree_of arena.old a)
-        (tree_of arena.old b)) else forms.fails norm (norm op (tree_of arena.old a) (tree_of arena.old b)))) }
+    requires first { IsValueIn arena.old a.now }
+    requires second { IsValueIn arena.old b.now }
+    requires comparison { TakesByteNumber op (value_tree arena.old b.now) }
+    ensures trees { OnOk result (Adds arena.old conditions.old (if holds then forms.succeeds (norm op (value_tree arena.old a.now)
+        (value_tree arena.old b.now)) else forms.fails norm (norm op (value_tree arena.old a.now) (value_tree arena.old b.now))) arena.new conditions.new) }
     ensures listed { Belong arena.new conditions.new }
     ensures keeps { Extends arena.old arena.new }
 {
-    let comparison = make(arena, op, a, b)?;
+    let comparison = made(arena, op, a, b)?;
     if holds {
-        conditions.add_holds(arena, comparison)
+        add_holds(conditions, arena, &comparison)
     } else {
-        add_fails(conditions, arena, comparison)
+        add_fails(conditions, arena, &comparison)
     }
 }
 
-/// Adds that a branch on two terms was taken, or that it wasn't.
+/// Adds that a branch on two values was taken, or that it wasn't.
 fn add_outcome(
     conditions: &mut Conditions,
     arena: &mut Arena,
     cond: Cond,
-    a: Term,
-    b: Term,
+    a: &Value,
+    b: &Value,
     taken: bool,
 ) -> Result<(), NoMemory>
     requires listed { Belong arena.old conditions.old }
-    requires first { IsTermIn arena.old a }
-    requires second { IsTermIn arena.old b }
-    ensures trees { OnOk result (trees_of arena.new conditions.new
-        ≡ with_conditions (trees_of arena.old conditions.old) (branch_conditions norm cond (tree_of arena.old a) (tree_of arena.old b) taken)) }
+    requires first { IsValueIn arena.old a.now }
+    requires second { IsValueIn arena.old b.now }
+    ensures trees { OnOk result (Adds arena.old conditions.old
+        (branch_conditions norm cond (value_tree arena.old a.now) (value_tree arena.old b.now) taken) arena.new conditions.new) }
     ensures listed { Belong arena.new conditions.new }
     ensures keeps { Extends arena.old arena.new }
 {
     match cond {
-        Cond::Eq | Cond::Ne if (cond == Cond::Eq) == taken => conditions.add_equal(arena, a, b),
+        Cond::Eq | Cond::Ne if (cond == Cond::Eq) == taken => add_equal(conditions, arena, a, b),
         Cond::Eq | Cond::Ne => add_comparison(conditions, arena, Op::Eq, a, b, false),
         Cond::Lt => add_comparison(conditions, arena, Op::Alu(AluOp::Slt), a, b, taken),
         Cond::Ge => add_comparison(conditions, arena, Op::Alu(AluOp::Slt), a, b, !taken),
@@ -112,15 +207,15 @@ fn add_fetched_byte(
     requires listed { Belong arena.old conditions.old }
     requires state { IsState arena.old state.now }
     requires byte { k < 4 }
-    ensures trees { OnOk result (trees_of arena.new conditions.new
-        ≡ with_conditions (trees_of arena.old conditions.old) (forms.succeeds (fetched_byte norm (terms_of arena.old state.now) address word k))) }
+    ensures trees { OnOk result (Adds arena.old conditions.old
+        (forms.succeeds (fetched_byte norm (terms_of arena.old state.now) address word k)) arena.new conditions.new) }
     ensures listed { Belong arena.new conditions.new }
     ensures keeps { Extends arena.old arena.new }
 {
-    let byte = state.byte(arena, address)?;
-    let wanted = arena.constant(u32::from(byte_of(k, word)))?;
-    let same = make(arena, Op::Eq, byte, wanted)?;
-    conditions.add_holds(arena, same)
+    let byte = state.byte(arena, address);
+    let wanted = Value::Known(u32::from(byte_of(k, word)));
+    let same = made(arena, Op::Eq, &byte, &wanted)?;
+    add_holds(conditions, arena, &same)
 }
 
 /// Adds that the four bytes from an address up are those of a word.
@@ -134,8 +229,8 @@ fn add_fetch(
 ) -> Result<(), NoMemory>
     requires listed { Belong arena.old conditions.old }
     requires state { IsState arena.old state.now }
-    ensures trees { OnOk result (trees_of arena.new conditions.new
-        ≡ with_conditions (trees_of arena.old conditions.old) (fetch_conditions norm (terms_of arena.old state.now) address word)) }
+    ensures trees { OnOk result (Adds arena.old conditions.old
+        (fetch_conditions norm (terms_of arena.old state.now) address word) arena.new conditions.new) }
     ensures listed { Belong arena.new conditions.new }
     ensures keeps { Extends arena.old arena.new }
 {
@@ -159,13 +254,13 @@ fn add_register(
     requires listed { Belong arena.old conditions.old }
     requires state { IsState arena.old state.now }
     requires register { register < 32 }
-    ensures trees { OnOk result (trees_of arena.new conditions.new
-        ≡ with_conditions (trees_of arena.old conditions.old) (forms.pin norm (register_tree arena.old state.now register) value)) }
+    ensures trees { OnOk result (Adds arena.old conditions.old
+        (forms.pin norm (register_tree arena.old state.now register) value) arena.new conditions.new) }
     ensures listed { Belong arena.new conditions.new }
     ensures keeps { Extends arena.old arena.new }
 {
-    let t = state.register(arena, register);
-    conditions.add_pin(arena, t, value)
+    let v = state.register(arena, register);
+    add_pin(conditions, arena, &v, value)
 }
 
 /// Adds that the values of a call are those of its event.
@@ -178,8 +273,7 @@ fn add_call(
 ) -> Result<(), NoMemory>
     requires listed { Belong arena.old conditions.old }
     requires state { IsState arena.old state.now }
-    ensures trees { OnOk result (trees_of arena.new conditions.new
-        ≡ with_conditions (trees_of arena.old conditions.old) (call_conditions (terms_of arena.old state.now) call)) }
+    ensures trees { OnOk result (Adds arena.old conditions.old (call_conditions (terms_of arena.old state.now) call) arena.new conditions.new) }
     ensures listed { Belong arena.new conditions.new }
     ensures keeps { Extends arena.old arena.new }
 {
@@ -194,18 +288,18 @@ fn add_branch(
     conditions: &mut Conditions,
     arena: &mut Arena,
     cond: Cond,
-    a: Term,
-    b: Term,
+    a: &Value,
+    b: &Value,
     target: u32,
     next: u32,
     shown: u32,
 ) -> Result<(), NoMemory>
     requires listed { Belong arena.old conditions.old }
-    requires first { IsTermIn arena.old a }
-    requires second { IsTermIn arena.old b }
-    ensures trees { OnOk result (trees_of arena.new conditions.new
-        ≡ with_conditions (trees_of arena.old conditions.old) (if target == next then [] else branch_conditions norm cond
-        (tree_of arena.old a) (tree_of arena.old b) (shown == target))) }
+    requires first { IsValueIn arena.old a.now }
+    requires second { IsValueIn arena.old b.now }
+    ensures trees { OnOk result (Adds arena.old conditions.old
+        (if target == next then [] else branch_conditions norm cond (value_tree arena.old a.now) (value_tree arena.old b.now)
+        (shown == target)) arena.new conditions.new) }
     ensures listed { Belong arena.new conditions.new }
     ensures keeps { Extends arena.old arena.new }
 {
@@ -227,14 +321,13 @@ fn add_address(
     requires listed { Belong arena.old conditions.old }
     requires state { IsState arena.old state.now }
     requires register { register < 32 }
-    ensures trees { OnOk result (trees_of arena.new conditions.new
-        ≡ with_conditions (trees_of arena.old conditions.old) (forms.pin norm (norm (Alu Add)
-        (register_tree arena.old state.now register) (Const immediate)) address)) }
+    ensures trees { OnOk result (Adds arena.old conditions.old
+        (forms.pin norm (norm (Alu Add) (register_tree arena.old state.now register) (Const immediate)) address) arena.new conditions.new) }
     ensures listed { Belong arena.new conditions.new }
     ensures keeps { Extends arena.old arena.new }
 {
     let sum = state.sum(arena, register, immediate)?;
-    conditions.add_pin(arena, sum, address)
+    add_pin(conditions, arena, &sum, address)
 }
 
 /// Adds that a register and an immediate sum to a target once the lowest bit is cleared.
@@ -249,14 +342,13 @@ fn add_jump(
     requires listed { Belong arena.old conditions.old }
     requires state { IsState arena.old state.now }
     requires register { register < 32 }
-    ensures trees { OnOk result (trees_of arena.new conditions.new
-        ≡ with_conditions (trees_of arena.old conditions.old) (forms.target norm (norm (Alu Add)
-        (register_tree arena.old state.now register) (Const immediate)) target)) }
+    ensures trees { OnOk result (Adds arena.old conditions.old
+        (forms.target norm (norm (Alu Add) (register_tree arena.old state.now register) (Const immediate)) target) arena.new conditions.new) }
     ensures listed { Belong arena.new conditions.new }
     ensures keeps { Extends arena.old arena.new }
 {
     let sum = state.sum(arena, register, immediate)?;
-    conditions.add_target(arena, sum, target)
+    add_target(conditions, arena, &sum, target)
 }
 
 /// Adds what an instruction asks, by its event and by what is shown after it.
@@ -272,8 +364,8 @@ fn add_row(
     requires listed { Belong arena.old conditions.old }
     requires state { IsState arena.old state.now }
     requires well_formed { IsWellFormed instr }
-    ensures trees { OnOk result (trees_of arena.new conditions.new
-        ≡ with_conditions (trees_of arena.old conditions.old) (row_conditions norm (terms_of arena.old state.now) event.now shown instr)) }
+    ensures trees { OnOk result (Adds arena.old conditions.old
+        (row_conditions norm (terms_of arena.old state.now) event.now shown instr) arena.new conditions.new) }
     ensures listed { Belong arena.new conditions.new }
     ensures keeps { Extends arena.old arena.new }
 {
@@ -291,7 +383,7 @@ fn add_row(
             let b = state.register(arena, rs2);
             let target = event.pc.wrapping_add(bits(offset));
             let next = event.pc.wrapping_add(4);
-            add_branch(conditions, arena, cond, a, b, target, next, shown)
+            add_branch(conditions, arena, cond, &a, &b, target, next, shown)
         }
         Instr::Load {
             width: _,
@@ -330,10 +422,9 @@ fn add_word(
     requires state { IsState arena.old state.now }
     requires word { instr ≡ decoded event.now.word }
     requires well_formed { IfSome instr IsWellFormed }
-    ensures trees { OnOk result (trees_of arena.new conditions.new
-        ≡ with_conditions (trees_of arena.old conditions.old) (fetch_conditions norm
-        (terms_of arena.old state.now) event.now.pc event.now.word ++ instr_conditions norm
-        (terms_of arena.old state.now) event.now shown (decoded event.now.word))) }
+    ensures trees { OnOk result (Adds arena.old conditions.old
+        (fetch_conditions norm (terms_of arena.old state.now) event.now.pc event.now.word
+        ++ instr_conditions norm (terms_of arena.old state.now) event.now shown (decoded event.now.word)) arena.new conditions.new) }
     ensures listed { Belong arena.new conditions.new }
     ensures keeps { Extends arena.old arena.new }
 {
@@ -359,8 +450,8 @@ pub(crate) fn add_event(
     requires state { IsState arena.old state.now }
     requires word { instr ≡ decoded event.now.word }
     requires well_formed { IfSome instr IsWellFormed }
-    ensures trees { OnOk result (trees_of arena.new conditions.new
-        ≡ with_conditions (trees_of arena.old conditions.old) (event_conditions norm (terms_of arena.old state.now) event.now shown)) }
+    ensures trees { OnOk result (Adds arena.old conditions.old
+        (event_conditions norm (terms_of arena.old state.now) event.now shown) arena.new conditions.new) }
     ensures listed { Belong arena.new conditions.new }
     ensures keeps { Extends arena.old arena.new }
 {

@@ -1,102 +1,112 @@
-//! Registers and memory as terms.
+//! Registers and memory as numbers and terms.
 
-ghost use Rattle.std.specs.Prelude.{◌≡◌, ◌<◌, ◌≤◌, ◌+◌, ◌^◌, ◌&&◌, nat_le, nat_lt, if◌then◌else◌, true, ℕ, List};
+ghost use Rattle.std.specs.Prelude.{◌≡◌, ◌<◌, ◌≤◌, ◌+◌, ◌^◌, ◌&&◌, ◌==◌, nat_le, nat_lt, if◌then◌else◌, true, ℕ, List};
 ghost use Rattle.std.specs.Prelude.{length, Some, None, IfSome, IfNone, IsSome, IfOk, OnOk};
 ghost use Rattle.term_model.specs.Tree.{Tree, Const};
-ghost use Rattle.term_model.specs.declared.Op.TheVariants.{Alu};
-ghost use Rattle.rv_word.specs.declared.AluOp.TheVariants.{Add};
 ghost use Rattle.term_arena.specs.Trees.{tree_of, Extends};
-ghost use Rattle.normal_form.specs.Norm.{norm};
 ghost use Rattle.memory_map.specs.Cells.{byte_at};
 ghost use Rattle.memory_map.specs.Heaps.{may_break, with_break};
 ghost use Rattle.replay_law.specs.Terms.{reg_term, put_reg, put_trees, with_tree, zero_between, start_terms};
-ghost use Rattle.replay_law.specs.Terms as definitions;
-ghost use Rattle.path_condition.specs.Sums.{IsNormalTermOf};
-ghost use Rattle.sym_replay.specs.States.{terms_of, register_tree, IsTermIn, IsState};
+ghost use Rattle.sym_replay.specs.Cells.{without_bytes, over_bare_cells};
+ghost use Rattle.sym_replay.specs.Values.{value_tree, IsTermIn, IsValueIn, IsValueOf};
+ghost use Rattle.sym_replay.specs.States.{terms_of, register_tree, AreWithin, IsState};
 ghost use Rattle.std.specs.Ordering.{nat_cmp};
 ghost use Rattle.std.specs.BTreeMap.{get};
 
+use crate::value::Value;
 use elf32::Image;
 use memory_map::{Heap, Memory};
 use no_memory::NoMemory;
-use rv_word::AluOp;
-use simplify::make;
 use std::alloc::Global;
 use std::collections::BTreeMap;
-use term_arena::{Arena, Op, Term};
+use term_arena::{Arena, Term};
 
-/// Registers and memory as terms over the input, how many bytes of the input have been read, and a memory that nothing is
-/// stored in: its addresses and rights are those of the run, and where there is no term for a byte its byte is the run's.
+/// Registers and memory over the input, and how many bytes of the input have been read.
 #[derive(Drop)]
 pub(crate) struct ReplayState {
-    pub(crate) registers: [Term; 32],
+    pub(crate) registers: [Value; 32],
+    /// The addresses whose byte is a term.
     pub(crate) bytes: BTreeMap<u32, Term>,
+    /// No address below has a term.
+    pub(crate) lowest: u32,
+    /// No address above has a term.
+    pub(crate) highest: u32,
     pub(crate) place: u32,
+    /// The addresses and rights of the run, and its bytes where there is no term.
     pub(crate) memory: Memory,
 }
 
 impl ReplayState {
     /// The state at the start of a program.
-    pub(crate) fn start(
-        alloc: Global,
-        arena: &mut Arena,
-        image: &Image,
-    ) -> Result<ReplayState, NoMemory>
-        ensures state { IfOk result (IsState arena.new) }
-        ensures terms { IfOk result (λ s. terms_of arena.new s ≡ start_terms image.now.segments) }
-        ensures keeps { Extends arena.old arena.new }
+    pub(crate) fn start(alloc: Global, image: &Image) -> Result<ReplayState, NoMemory>
+        ensures state { IfOk result (λ s. (trees : List Tree) → IsState trees s) }
+        ensures terms { IfOk result (λ s. (trees : List Tree) →
+            terms_of trees s ≡ over_bare_cells (start_terms image.now.segments)) }
     {
         let memory = Memory::start(alloc, image)?;
-        let zero = arena.constant(0)?;
-        let stack_pointer = arena.constant(0x7fff_ff00)?;
-        let mut registers = [zero; 32];
-        registers[2] = stack_pointer;
+        let mut registers = [Value::Known(0); 32];
+        registers[2] = Value::Known(0x7fff_ff00);
         Ok(ReplayState {
             registers,
             bytes: BTreeMap::new(alloc),
+            lowest: u32::MAX,
+            highest: 0,
             place: 0,
             memory,
         })
     }
 
-    /// The term of a register.
-    pub(crate) fn register(&self, arena: &Arena, register: u8) -> Term
+    /// The value of a register.
+    pub(crate) fn register(&self, arena: &Arena, register: u8) -> Value
         requires state { IsState arena.now self.now }
         requires register { register < 32 }
-        ensures term { IsTermIn arena.now result }
-        ensures tree { tree_of arena.now result ≡ register_tree arena.now self.now register }
+        ensures { IsValueOf arena.now (register_tree arena.now self.now register) result }
     {
         let _ = arena;
         self.registers[register as usize]
     }
 
-    /// Puts a term into a register. A write to x0 has no effect.
-    pub(crate) fn put(&mut self, register: u8, t: Term)
+    /// Puts a value into a register. A write to x0 has no effect.
+    pub(crate) fn put(&mut self, register: u8, v: Value)
         requires { register < 32 }
-        ensures state { (trees : List Tree) → IsState trees self.old → IsTermIn trees t → IsState trees self.new }
+        ensures state { (trees : List Tree) → IsState trees self.old → IsValueIn trees v → IsState trees self.new }
         ensures terms { (trees : List Tree) →
-            terms_of trees self.new ≡ put_reg register (tree_of trees t) (terms_of trees self.old) }
+            terms_of trees self.new ≡ put_reg register (value_tree trees v) (terms_of trees self.old) }
         ensures place { self.new.place ≡ self.old.place }
     {
         if register != 0 {
-            self.registers[register as usize] = t;
+            self.registers[register as usize] = v;
         }
     }
 
-    /// The term of the byte at an address.
-    pub(crate) fn byte(&self, arena: &mut Arena, address: u32) -> Result<Term, NoMemory>
-        requires { IsState arena.old self.now }
-        ensures term { IfOk result (IsNormalTermOf arena.new ((terms_of arena.old self.now).bytes address)) }
-        ensures keeps { Extends arena.old arena.new }
+    /// The term at an address, where there is one.
+    fn term_at(&self, address: u32) -> Option<Term>
+        requires { AreWithin self.now.bytes self.now.lowest self.now.highest }
+        ensures { result ≡ get nat_cmp self.now.bytes address }
     {
+        if address < self.lowest || address > self.highest {
+            return None;
+        }
         match self.bytes.get(&address) {
-            Some(t) => Ok(*t),
-            None => arena.constant(u32::from(self.memory.byte(address))),
+            Some(t) => Some(*t),
+            None => None,
+        }
+    }
+
+    /// The value of the byte at an address.
+    pub(crate) fn byte(&self, arena: &Arena, address: u32) -> Value
+        requires { IsState arena.now self.now }
+        ensures { IsValueOf arena.now ((terms_of arena.now self.now).bytes address) result }
+    {
+        let _ = arena;
+        match self.term_at(address) {
+            Some(t) => Value::Term(t),
+            None => Value::Known(u32::from(self.memory.byte(address))),
         }
     }
 
     /// Puts a term at an address.
-    pub(crate) fn put_byte(&mut self, address: u32, t: Term) -> Result<(), NoMemory>
+    pub(crate) fn put_term(&mut self, address: u32, t: Term) -> Result<(), NoMemory>
         ensures state { (trees : List Tree) → IsState trees self.old → IsTermIn trees t →
             OnOk result (IsState trees self.new) }
         ensures terms { (trees : List Tree) →
@@ -107,7 +117,79 @@ impl ReplayState {
         ensures memory { self.new.memory ≡ self.old.memory }
     {
         self.bytes.insert(address, t)?;
+        self.lowest = self.lowest.min(address);
+        self.highest = self.highest.max(address);
         Ok(())
+    }
+
+    /// Takes away the term at an address, where there is one.
+    fn forget(&mut self, address: u32)
+        requires { AreWithin self.old.bytes self.old.lowest self.old.highest }
+        ensures bytes { (q : ℕ) → get nat_cmp self.new.bytes q ≡ (if q == address then None else get nat_cmp self.old.bytes q) }
+        ensures rest { self.new ≡ record self.old { bytes = self.new.bytes } }
+    {
+        if self.lowest <= address && address <= self.highest {
+            self.bytes.remove(&address);
+        }
+    }
+
+    /// Puts a number at an address that may be written, and answers whether it is one. Else nothing changes.
+    fn put_number(&mut self, address: u32, byte: u8) -> bool
+        requires { AreWithin self.old.bytes self.old.lowest self.old.highest }
+        ensures state { (trees : List Tree) → IsState trees self.old → IsState trees self.new }
+        ensures terms { (trees : List Tree) →
+            terms_of trees self.new ≡ (if result
+            then record (terms_of trees self.old) { bytes = with_tree (terms_of trees self.old).bytes address (Const byte) }
+            else terms_of trees self.old) }
+        ensures place { self.new.place ≡ self.old.place }
+    {
+        if self.memory.store(address, byte) {
+            self.forget(address);
+            true
+        } else {
+            false
+        }
+    }
+
+    /// Puts a value at an address without a term, where it is a known byte and the address may be written, and answers
+    /// whether that is so. Else nothing changes.
+    fn put_known(&mut self, address: u32, v: &Value) -> bool
+        requires { AreWithin self.old.bytes self.old.lowest self.old.highest }
+        ensures state { (trees : List Tree) → IsState trees self.old → IsState trees self.new }
+        ensures terms { (trees : List Tree) →
+            terms_of trees self.new ≡ (if result
+            then record (terms_of trees self.old) { bytes = with_tree (terms_of trees self.old).bytes address (value_tree trees v.now) }
+            else terms_of trees self.old) }
+        ensures place { self.new.place ≡ self.old.place }
+    {
+        match v {
+            Value::Known(word) if *word < 0x100 => self.put_number(address, *word as u8),
+            _ => false,
+        }
+    }
+
+    /// Puts the value of a byte at an address.
+    pub(crate) fn put_byte(
+        &mut self,
+        arena: &mut Arena,
+        address: u32,
+        v: &Value,
+    ) -> Result<(), NoMemory>
+        requires state { IsState arena.old self.old }
+        requires value { IsValueIn arena.old v.now }
+        ensures state { OnOk result (IsState arena.new self.new) }
+        ensures terms { OnOk result (terms_of arena.new self.new
+            ≡ record (terms_of arena.old self.old) {
+              bytes = with_tree (terms_of arena.old self.old).bytes address (value_tree arena.old v.now);
+            }) }
+        ensures place { self.new.place ≡ self.old.place }
+        ensures keeps { Extends arena.old arena.new }
+    {
+        if self.put_known(address, v) {
+            return Ok(());
+        }
+        let t = v.interned(arena)?;
+        self.put_term(address, t)
     }
 
     /// The first address from one up to another that has a term.
@@ -126,9 +208,7 @@ impl ReplayState {
     fn clear(&mut self, from: u32, to: u32)
         requires { from ≤ to }
         ensures bytes { (q : ℕ) → get nat_cmp self.new.bytes q ≡ (if nat_le from q && nat_lt q to then None else get nat_cmp self.old.bytes q) }
-        ensures registers { self.new.registers ≡ self.old.registers }
-        ensures place { self.new.place ≡ self.old.place }
-        ensures memory { self.new.memory ≡ self.old.memory }
+        ensures rest { self.new ≡ record self.old { bytes = self.new.bytes } }
     {
         while let Some(address) = self.first_between(from, to) {
             self.bytes.remove(&address);
@@ -142,7 +222,7 @@ impl ReplayState {
         ensures state { (trees : List Tree) → IsState trees self.old → IsState trees self.new }
         ensures terms { (trees : List Tree) → terms_of trees self.new ≡ record (terms_of trees self.old) {
           bytes = zero_between (terms_of trees self.old).bytes heap.brk address;
-          cells = with_break self.old.memory.map heap.brk address;
+          cells = with_break (terms_of trees self.old).cells heap.brk address;
           heap = Some (record { start = heap.start; brk = address });
         } }
         ensures place { self.new.place ≡ self.old.place }

@@ -67,7 +67,7 @@ pub fn replay(
 {
     conditions_hold_of_the_class();
     conditions_are_proper();
-    let mut state = ReplayState::start(alloc, arena, image)?;
+    let mut state = ReplayState::start(alloc, image)?;
     let mut conditions = Conditions::new(alloc);
     let events = transcript.events.as_slice();
     for i in 0..events.len() {

@@ -4,7 +4,7 @@ use Rattle.normal_form.specs.Norm.{norm}
 use Rattle.replay_law.specs.Forms.{pin, with_conditions}
 use Rattle.path_condition.proofs.ListLemmas.{then_ok}
 use Rattle.sym_replay.specs.States.{register_tree}
-use Rattle.sym_replay.proofs.StateLemmas.{further}
+use Rattle.sym_replay.proofs.ValueLemmas.{further}
 use Rattle.sym_replay.proofs.PinLemmas.{four_lists, grown_register}
 use Rattle.sym_replay.proofs.pins.add_call.Goals as goal
 

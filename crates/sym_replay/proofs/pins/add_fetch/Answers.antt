@@ -6,7 +6,8 @@ use Rattle.replay_law.specs.Forms.{with_conditions}
 use Rattle.replay_law.specs.Follow.{fetched_byte}
 use Rattle.path_condition.proofs.ListLemmas.{then_ok}
 use Rattle.sym_replay.specs.States.{terms_of}
-use Rattle.sym_replay.proofs.StateLemmas.{further, grown_terms}
+use Rattle.sym_replay.proofs.ValueLemmas.{further}
+use Rattle.sym_replay.proofs.StateLemmas.{grown_terms}
 use Rattle.sym_replay.proofs.PinLemmas.{four_more}
 use Rattle.sym_replay.proofs.pins.add_fetch.Goals as goal
 

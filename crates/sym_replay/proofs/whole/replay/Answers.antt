@@ -13,21 +13,22 @@ use Rattle.replay_law.specs.Follow.{event_conditions, shown_next}
 use Rattle.trace_conditions.specs.Conditions as whole
 use Rattle.path_condition.proofs.ListLemmas.{grown_trees, grown_belong}
 use Rattle.sym_replay.specs.States.{terms_of}
-use Rattle.sym_replay.proofs.StateLemmas.{grown_state, grown_terms, further}
+use Rattle.sym_replay.proofs.ValueLemmas.{as_it_is, further}
+use Rattle.sym_replay.proofs.StateLemmas.{grown_state, grown_terms}
 use Rattle.sym_replay.proofs.RunLemmas.{at_start, next_event, at_end}
 use Rattle.sym_replay.proofs.whole.replay.Goals as goal
 
 pub loop-i-init : goal.loop-i-init
 loop-i-init c =
-    let arena = c.start.new.arena in
+    let arena = c.args.arena.now in
     let program : Program = program_of c.args.image.now in
     let none : c.new-conditions.result ≡ [] = c.new-conditions.ensures.empty in
-    let start = c.in_ok-state.ensures.terms in
+    let start = c.in_ok-state.ensures.terms arena in
     let place : c.in_ok-state.state.place ≡ 0 = (λ i. (start i).place) in (
       λ k d lt. absurd (let h : k < 0 = subst (λ (ts : List ℕ). k < length ts) none lt in omega arith),
-      c.in_ok-state.ensures.state,
+      c.in_ok-state.ensures.state arena,
       omega arith,
-      c.in_ok-state.ensures.keeps,
+      as_it_is arena,
       at_start program c.args.transcript.now (trees_of arena c.new-conditions.result) (terms_of arena c.in_ok-state.state) (ap (trees_of arena) none) start,
     )
 

@@ -3,7 +3,6 @@ use Rattle.term_model.specs.Tree.{Const}
 use Rattle.replay_law.specs.Terms.{put_reg, after_reply}
 use Rattle.sym_replay.specs.States.{terms_of}
 use Rattle.sym_replay.specs.Replies.{reply_of}
-use Rattle.sym_replay.proofs.HeapLemmas.{on_ok_then}
 use Rattle.sym_replay.proofs.state.ReplayState.answer.Goals as goal
 
 pub put_constant-requires-in-Breaks-clause-state : goal.put_constant-requires-in-Breaks-clause-state
@@ -11,10 +10,6 @@ put_constant-requires-in-Breaks-clause-state c = c.move_break.ensures.state c.ar
 
 pub returns-in-Breaks-clause-terms : goal.returns-in-Breaks-clause-terms
 returns-in-Breaks-clause-terms c =
-    let moved = c.move_break.ensures.terms c.args.arena.now in
-    on_ok_then c.put_constant-in-Breaks.result
-    (terms_of c.put_constant-in-Breaks.new.arena c.put_constant-in-Breaks.new.self)
-    (put_reg 10 (Const c.in-Breaks.address) (terms_of c.args.arena.now c.move_break.new.self))
-    (after_reply (terms_of c.args.arena.now c.args.self.now) c.args.event.now (reply_of c.args.reply))
-    (ap (put_reg 10 (Const c.in-Breaks.address)) moved ∙ ap (λ r. after_reply (terms_of c.args.arena.now c.args.self.now) c.args.event.now (reply_of r)) (sym c.in-Breaks.is))
     c.put_constant-in-Breaks.ensures.terms
+    ∙ ap (put_reg 10 (Const c.in-Breaks.address)) (c.move_break.ensures.terms c.args.arena.now)
+    ∙ ap (λ r. after_reply (terms_of c.args.arena.now c.args.self.now) c.args.event.now (reply_of r)) (sym c.in-Breaks.is)

@@ -5,9 +5,7 @@ use Rattle.sym_replay.proofs.state.ReplayState.clear.Goals as goal
 pub loop-address-preserved : goal.loop-address-preserved
 loop-address-preserved c = (
   λ q. one_cleared c.loop-address.self.bytes c.remove.new.self c.args.from c.args.to c.in-Some.address c.in-Some.ensures.some.0 c.in-Some.ensures.some.1 c.remove.ensures.updates q ∙ c.loop-address.invariant.0 q,
-  c.loop-address.invariant.1,
-  c.loop-address.invariant.2,
-  c.loop-address.invariant.3,
+  (λ i. record (c.loop-address.invariant.1 i) { bytes = c.remove.new.self }),
 )
 
 pub returns-clause-bytes : goal.returns-clause-bytes

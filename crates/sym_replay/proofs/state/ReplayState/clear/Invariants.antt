@@ -8,7 +8,7 @@ use Rattle.sym_replay.proofs.state.ReplayState.clear.Given as goal
 abbrev pub invariant-loop-address : goal.invariant-loop-address
 invariant-loop-address l =
     ((q : ℕ) → cleared l.from l.to q (get nat_cmp l.self.bytes q) ≡ cleared l.from l.to q (get nat_cmp l.fn.self.bytes q))
-    × (l.self.registers ≡ l.fn.self.registers) × (l.self.place ≡ l.fn.self.place) × (l.self.memory ≡ l.fn.self.memory)
+    × (l.self ≡ record l.fn.self { bytes = l.self.bytes })
 
 abbrev pub decreases-loop-address : goal.decreases-loop-address
 decreases-loop-address l = btree_map_len l.self.bytes

@@ -5,10 +5,9 @@ use Rattle.sym_replay.proofs.state.ReplayState.put_made.Goals as goal
 
 pub returns-clause-state : goal.returns-clause-state
 returns-clause-state c =
-    c.put.ensures.state c.make.new.arena (grown_state c.args.arena.now c.make.new.arena c.args.self.now c.in_ok-t.ensures.keeps c.requires.state)
-    (record { belongs = c.in_ok-t.ensures.below; normal = c.in_ok-t.ensures.normal })
+    c.put.ensures.state c.made.new.arena (grown_state c.args.arena.now c.made.new.arena c.args.self.now c.in_ok-v.ensures.keeps c.requires.state) c.in_ok-v.ensures.value.within
 
 pub returns-clause-terms : goal.returns-clause-terms
 returns-clause-terms c =
-    let grown = grown_terms c.args.arena.now c.make.new.arena c.args.self.now c.in_ok-t.ensures.keeps c.requires.state in
-    c.put.ensures.terms c.make.new.arena ∙ (λ i. put_reg c.args.register (c.in_ok-t.ensures.tree i) (grown i))
+    let grown = grown_terms c.args.arena.now c.made.new.arena c.args.self.now c.in_ok-v.ensures.keeps c.requires.state in
+    c.put.ensures.terms c.made.new.arena ∙ (λ i. put_reg c.args.register (c.in_ok-v.ensures.value.is i) (grown i))
