@@ -1,10 +1,9 @@
 -- One more entry in an arena.
-use Rattle.std.proofs.Common.{◌≡◌, ℕ, ◌<◌, List, [], ◌∷◌, ◌++◌, length, ap, ◌∙◌, refl, Some, inl, inr}
+use Rattle.std.proofs.Common.{◌≡◌, ℕ, ◌<◌, List, [], ◌∷◌, ◌++◌, length, ap, ◌∙◌, Some, inl, inr}
 use Rattle.std.specs.Prelude.{slice_get}
 use Rattle.std.specs.Option.{option_map}
 use Rattle.std.proofs.lemmas.List.{map-append, length-map}
 use Rattle.std.proofs.lemmas.Option.{slice_get-map, slice_get_within}
-use Rattle.term_arena.specs.declared.nodes.Node.{Node}
 use Rattle.term_arena.specs.declared.entries.Entry.{Entry}
 use Rattle.term_model.specs.ZeroBytes.{is_zero_byte}
 use Rattle.term_arena.specs.Trees.{tree_of, tree_from, IsNodeAt}

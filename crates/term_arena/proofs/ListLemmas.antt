@@ -1,6 +1,6 @@
 -- A list of chunks stays one.
-use Rattle.std.proofs.Common.{◌≡◌, ◌≢◌, ℕ, suc, Bool, ◌^◌, ◌+◌, ◌*◌, ◌/◌, ◌%◌, ◌<◌, ◌≤◌, List, [], ◌∷◌, ◌++◌, length, refl, sym, ap, ◌∙◌, subst, arith, Option, Some, None, true, false, inl, inr, length-append}
-use Rattle.std.specs.Prelude.{slice_get, slice_set, get_or, IsTrue}
+use Rattle.std.proofs.Common.{◌≡◌, ◌≢◌, ℕ, suc, Bool, ◌^◌, ◌+◌, ◌*◌, ◌/◌, ◌%◌, ◌<◌, ◌≤◌, List, [], ◌∷◌, ◌++◌, length, refl, sym, ap, ◌∙◌, subst, arith, Some, None, true, false, inl, inr, length-append}
+use Rattle.std.specs.Prelude.{slice_get, slice_set, get_or}
 use Rattle.std.proofs.lemmas.List.{length-set, get_or-set_same, get_or-set_other}
 use Rattle.std.proofs.lemmas.Option.{slice_get_read, slice_get_within}
 use Rattle.std.proofs.lemmas.Bool.Decides.{eqb_tells}
@@ -9,7 +9,7 @@ use Rattle.std.specs.Mem.{type_size}
 use Rattle.std.specs.declared.alloc.Global.{Global}
 use Rattle.core.proofs.ptr.Rows.{times_below}
 use Rattle.core.specs.declared.slots.Slots.{Slots}
-use Rattle.core.specs.Mem.Slots.{slots_items, slots_filled, slots_len, slots_ptr, slots_counts, SamePlaces}
+use Rattle.core.specs.Mem.Slots.{slots_items, slots_filled, slots_ptr, slots_counts, SamePlaces}
 use denote.RawPtr.{Ptr, block_ptr, null_ptr, InBlock, Testable, count_of, ◌+ₚ◌}
 use Rattle.term_arena.specs.declared.chunks.TheConstants.{PLACES}
 use Rattle.term_arena.specs.declared.chunks.link.Chunk.{Chunk}

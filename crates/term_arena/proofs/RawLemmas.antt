@@ -1,5 +1,5 @@
 -- What a `&` to a link or to a list of chunks shows. Assumes `Logic`.
-use Rattle.std.proofs.Common.{◌≡◌, ℕ, zero, suc, ◌+◌, List, [], ◌∷◌, Some, ap, refl}
+use Rattle.std.proofs.Common.{◌≡◌, ℕ, zero, suc, ◌+◌, List, [], ◌∷◌, Some, refl}
 use Rattle.std.specs.Prelude.{slice_get}
 use seplogic.Ra.Ura.{Ura}
 use base.Logic.{ent}

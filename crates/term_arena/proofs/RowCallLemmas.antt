@@ -1,6 +1,5 @@
 -- A row of places that is taken apart into its words and made of them again: what each of the two calls is handed and gives back. Assumes `Logic`.
 use mathlib.Core.Path.{◌≡◌, refl, sym, ap, ◌∙◌}
-use mathlib.Core.Bool.{Bool}
 use Prim.Native.Nat.{ℕ, ◌*◌, ◌<◌, ◌^◌}
 use mathlib.Core.List.{List, [], ◌∷◌, ◌++◌}
 use lib.ListN.{length}
@@ -28,7 +27,7 @@ use Rattle.core.specs.contracts.slots.Slots.from_raw_parts as From
 use Rattle.core.specs.contracts.slots.Slots.from_raw_parts.Key as from
 use Rattle.core.specs.contracts.slots.Slots.into_raw_parts as Into
 use Rattle.core.specs.contracts.slots.Slots.into_raw_parts.Key as into
-use Rattle.core.proofs.mem.Param.{El, R, args, el_x}
+use Rattle.core.proofs.mem.Param.{El, R, args}
 use Rattle.core.proofs.slots.Places.{sz}
 use Rattle.core.proofs.slots.Opens.{Sr, el_d, words_val, row_val, row_had, row_made, places}
 

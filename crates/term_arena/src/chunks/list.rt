@@ -3,9 +3,8 @@ ghost use Rattle.std.specs.Prelude.{◌≡◌, ◌+◌, ◌*◌, ◌^◌, ◌<�
 ghost use Rattle.std.specs.Mem.{type_size};
 ghost use Rattle.term_arena.specs.Chunks.{IsChunk, IsChunkList, HasRoom, items_of, IsLinkTo, KeepsLinks};
 
-use super::PLACES;
 use super::link::{Chunk, Link};
-use super::raw;
+use super::{PLACES, raw};
 use core::slots::{release, reserve};
 use no_memory::NoMemory;
 use std::alloc::{AllocError, Global};

@@ -10,17 +10,15 @@ ghost use Rattle.term_arena.specs.Buckets.{entries_of, buckets, members, AreFall
 ghost use Rattle.term_arena.specs.declared.chunks.link.Link.{Link};
 ghost use Rattle.term_arena.specs.contracts.chunks.link.Placed.{the_row};
 
-use super::PLACES;
 use super::link::{Link, Placed};
 use super::list::ChunkList;
-use super::raw;
+use super::{PLACES, raw};
 use crate::entries::Entry;
 use crate::nodes::Node;
 use no_memory::NoMemory;
 use std::alloc::Global;
-use std::array;
 use std::marker::Model;
-use std::mem;
+use std::{array, mem};
 
 /// How many buckets a table begins with.
 const BUCKETS: usize = 1024;

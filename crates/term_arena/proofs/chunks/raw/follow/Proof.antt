@@ -1,6 +1,5 @@
 -- `follow` reads the link's pointer, and hands on the `&` to the value there, which the chunk of the link's number lends. Assumes `Logic`.
-use mathlib.Core.Path.{◌≡◌, refl, sym, ap, subst, ◌∙◌}
-use mathlib.Core.Bool.{Bool, true, false}
+use mathlib.Core.Path.{◌≡◌, refl, ap, subst, ◌∙◌}
 use Prim.Native.Nat.{ℕ, ◌+◌, ◌*◌, ◌/◌, ◌%◌, ◌<◌, ◌^◌}
 use native.Mathlib.Nat.{add_comm}
 use native.Mathlib.Omega.{arith}
@@ -19,7 +18,7 @@ use types.Logic.{Logic}
 use contract.BorrowLft.{◌⊑◌}
 use contract.Monad.{Fun, fact}
 use contract.Running.{tables, tables_of}
-use denote.RattleType.{RattleType, owns}
+use denote.RattleType.{owns}
 use denote.Signature.{plain, types_at}
 use denote.Steps.{heard, nothing}
 use denote.Triple.Clauses.{Clauses, Ended, closing}
@@ -41,7 +40,7 @@ use Rattle.std.specs.Prelude.{slice_get, Some}
 use Rattle.std.proofs.lemmas.Option.{slice_get-get_or}
 use Rattle.core.proofs.mem.Param.{El, R, args, el_x}
 use Rattle.core.specs.Mem.Slots.Ownership.{slots_lent}
-use Rattle.core.specs.Mem.Slots.{slots_items, slots_filled, slots_len, slots_ptr, slots_counts}
+use Rattle.core.specs.Mem.Slots.{slots_items, slots_filled, slots_counts}
 use Rattle.core.proofs.slots.Bodies.{after}
 use Rattle.core.proofs.slots.Places.{sz}
 use Rattle.core.proofs.slots.Opens.{Sr, el_d}

@@ -30,7 +30,7 @@ use denote.Memory.{hidden_shr}
 use denote.RawPtr.{Ptr, RawPtr, block_ptr, null_ptr, ptr_val, Testable, tests_null}
 use denote.Ref.{shr_vals, shr_Tells}
 use denote.Triple.Walked.{says, Stays, stay_dropped, walk_of, ends_at, walked, Goes-dropped, walk_Meets}
-use Rattle.std.specs.Prelude.{MatchBool, Option, Some, None}
+use Rattle.std.specs.Prelude.{MatchBool, Some, None}
 use Rattle.term_arena.specs.declared.chunks.link.Link.{Link}
 use Rattle.term_arena.specs.contracts.chunks.link.Link as L
 use Rattle.term_arena.specs.Links.{link_at}

@@ -32,7 +32,7 @@ use denote.Exit.{yes}
 use denote.Builtin.{usize, u64}
 use denote.RawPtr.{Ptr, RawPtr, InBlock, block_ptr, block_of, count_of, at_block, ptr_val, ◌+ₚ◌}
 use denote.Triple.Walked.{says, Stays, stay_dropped, walk_of, ends_at, Goes-dropped, walk_Meets}
-use Rattle.core.proofs.mem.Param.{El, R, args}
+use Rattle.core.proofs.mem.Param.{El, args}
 use Rattle.core.proofs.ptr.Rows.{times_below, one_below}
 use Rattle.core.proofs.slots.Bodies.{after}
 use Rattle.core.proofs.slots.Places.{sz}

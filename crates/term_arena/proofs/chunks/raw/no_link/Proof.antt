@@ -1,8 +1,7 @@
 -- `no_link` makes a link of null. Assumes `Logic`.
 use mathlib.Core.Path.{refl}
-use mathlib.Core.List.{List, [], ◌∷◌}
+use mathlib.Core.List.{[], ◌∷◌}
 use lib.Dec.{lit<}
-use mir.Val.{Val}
 use seplogic.Ra.Ura.{Ura}
 use base.Logic.{SProp, ent}
 use prog.Memory.{Memory}
@@ -19,7 +18,7 @@ use denote.Triple.Entry.{alive}
 use denote.Triple.Spec.{Meets, triple_of}
 use denote.Triple.Table.{entered}
 use sound.WpLaws.{WpFn-mono}
-use types.Kit.{‵, raw, ◌⊛◌, ◌$◌, ◌∵◌, !, qed, move, keep, drop, split, suffices, done}
+use types.Kit.{‵, raw, ◌⊛◌, ◌$◌, ◌∵◌, !, qed, keep, split, suffices, done}
 use types.Part.{agg}
 use types.Run.{lit, and_then, no_more, returns, enter}
 use types.ByLocal.{alloc_all, pass_all, free_all, look_at, sets}

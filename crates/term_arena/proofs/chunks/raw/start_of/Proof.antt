@@ -1,10 +1,9 @@
 -- `start_of` takes the row apart into its two words, and makes it of them again. Assumes `Logic`.
 use mathlib.Core.Path.{◌≡◌, refl, sym, subst, ◌∙◌}
-use Prim.Native.Nat.{ℕ, ◌<◌, ◌^◌}
+use Prim.Native.Nat.{ℕ}
 use mathlib.Core.List.{List, [], ◌∷◌, ◌++◌}
-use lib.Dec.{T}
 use mir.Syntax.{Fn}
-use mir.Val.{Val, vptr, vstruct, vcons, vnil, has_ty, WT}
+use mir.Val.{Val, vptr, vstruct, vcons, vnil, WT}
 use base.Fml.{ftrue, flft}
 use seplogic.Ra.Ura.{Ura}
 use mir.MapTy.{inst_fn}
@@ -30,14 +29,12 @@ use types.Part.{whole, sub, agg}
 use types.Run.{stop, fld, of_opd, and_then, no_more, first, blocks, exec, returns, enter}
 use types.ByLocal.{alloc_all, pass_all, free_all, look_at, get, get_in, sets, sets_last, lands_as, env}
 use denote.Exit.{no}
-use denote.Param.{layout}
-use denote.RawPtr.{RawPtr, InBlock, block_ptr}
+use denote.RawPtr.{RawPtr, block_ptr}
 use denote.Struct.Struct.{within}
 use denote.Struct.Declared as Declared
 use denote.Struct.Tuple.{Tuple, tuple_type}
 use denote.Triple.Walked.{says, Stays, stay_dropped, walk_of, ends_at, Goes-dropped, walk_Meets}
-use Rattle.core.specs.Mem.Slots.{SamePlaces}
-use Rattle.core.proofs.mem.Param.{El, R, args}
+use Rattle.core.proofs.mem.Param.{El, args}
 use Rattle.core.proofs.slots.Bodies.{after}
 use Rattle.core.proofs.slots.Opens.{Sr, el_d, row_val, row_had, row_made, places}
 use Rattle.core.proofs.slots.Slots.into_raw_parts.Met as into

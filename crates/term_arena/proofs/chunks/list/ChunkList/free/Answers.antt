@@ -1,4 +1,4 @@
-use Rattle.std.proofs.Common.{ap, sym, ◌∙◌, length}
+use Rattle.std.proofs.Common.{ap, ◌∙◌, length}
 use Rattle.std.specs.Prelude.{slice_get}
 use Rattle.term_arena.proofs.ChunkLemmas.{in_push, end_of_push}
 use Rattle.term_arena.proofs.chunks.list.ChunkList.free.Goals as goal

@@ -1,4 +1,4 @@
-use Rattle.std.proofs.Common.{◌<◌, refl, arith}
+use Rattle.std.proofs.Common.{◌<◌, arith}
 use Rattle.std.proofs.lemmas.Option.{slice_get_read}
 use Rattle.core.specs.Mem.Slots.{slots_items}
 use Rattle.term_arena.proofs.ListLemmas.{count, index_within, chunk_read, row_length, item_read}
