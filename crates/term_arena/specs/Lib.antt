@@ -3,3 +3,7 @@ pub mod Mask
 pub mod Nodes
 pub mod Entries
 pub mod Slots
+pub mod Links
+pub mod Chunks
+pub mod Mixing
+pub mod Buckets

@@ -7,26 +7,19 @@ ghost use Rattle.term_model.specs.ZeroBytes.{is_zero_byte};
 ghost use Rattle.term_arena.specs.Trees.{tree_of, tree_from, IsNodeAt, Extends, AddsAtMost, IsShared};
 ghost use Rattle.term_arena.specs.Mask.{each_byte, mask_of};
 
+use crate::chunks::NodeTable;
+use crate::entries::Entry;
 use crate::nodes::{Node, Term};
 use crate::zero_bytes::{self, ZeroBytes};
 use no_memory::NoMemory;
-use std::alloc::{AllocError, Global};
-use std::collections::BTreeMap;
+use std::alloc::Global;
 use std::marker::Model;
 use term_model::Op;
-
-/// A node, and the bytes of its value that are zero under every input.
-#[derive(Clone, Copy, Debug)]
-struct Entry {
-    node: Node,
-    zero_bytes: ZeroBytes,
-}
 
 /// Nodes by number, and the number of each node (hash consing).
 #[derive(Drop)]
 pub struct Arena {
-    entries: Vec<Entry>,
-    numbers: BTreeMap<Node, u64>,
+    table: NodeTable,
 }
 
 impl Model for Arena {
@@ -40,9 +33,9 @@ impl Model for Arena {
 
     ghost coded = { coded_list tree_code };
 
-    ghost view = { λ a. entry_trees a.entries.items };
+    ghost view = { λ a. entry_trees a.table };
 
-    ghost invariant = { λ a. IsArena a.entries.items a.numbers };
+    ghost invariant = { λ a. IsArena a.table };
 }
 
 impl Arena {
@@ -51,8 +44,7 @@ impl Arena {
         ensures empty { IfOk result (λ arena. arena ≡ []) }
     {
         Ok(Arena {
-            entries: Vec::new(alloc),
-            numbers: BTreeMap::new(alloc),
+            table: NodeTable::new(alloc)?,
         })
     }
 
@@ -66,7 +58,7 @@ impl Arena {
         ensures shared { IsShared self.now }
         ensures words { (t : ℕ) → t < length self.now → HasWords (tree_of self.now t) }
     {
-        self.entries.len() as u64
+        self.table.len()
     }
 
     /// The top of a term's tree.
@@ -76,7 +68,7 @@ impl Arena {
         ensures top { tree_of self.now t ≡ tree_from self.now result }
         ensures place { IsNodeAt t result }
     {
-        self.entries[t.number() as usize].node
+        self.table.get(t.number()).node
     }
 
     /// The bytes of a term's value that its form shows to be zero under every input: bit k for
@@ -87,7 +79,7 @@ impl Arena {
         ensures mask { result ≡ mask_of (is_zero_byte (tree_of self.now t)) }
         ensures each { (k : ℕ) → k < 4 → (result / 2 ^ k % 2 ≡ 1) ↔ (is_zero_byte (tree_of self.now t) k ≡ true) }
     {
-        zero_bytes::mask(self.entries[t.number() as usize].zero_bytes)
+        zero_bytes::mask(self.table.get(t.number()).zero_bytes)
     }
 
     /// The zero bytes of a node, from those of its operands.
@@ -100,8 +92,8 @@ impl Arena {
             Node::Const(v) => zero_bytes::of_constant(v),
             Node::Input(_) => zero_bytes::UPPER,
             Node::Apply(op, a, b) => {
-                let first = self.entries[a.number() as usize];
-                let second = self.entries[b.number() as usize];
+                let first = self.table.get(a.number());
+                let second = self.table.get(b.number());
                 zero_bytes::after(
                     op,
                     first.zero_bytes,
@@ -122,17 +114,12 @@ impl Arena {
         ensures adds { AddsAtMost self.old (tree_from self.old node) self.new }
         ensures err { OnErr result (self.new ≡ self.old) }
     {
-        match self.numbers.get(&node) {
-            Some(number) => return Ok(Term::new(*number)),
+        match self.table.find(&node) {
+            Some(number) => return Ok(Term::new(number)),
             None => {}
         }
         let zero_bytes = self.zero_bytes_of(node);
-        let number = self.entries.len() as u64;
-        self.entries.push(Entry { node, zero_bytes })?;
-        if self.numbers.insert(node, number).is_err() {
-            self.entries.pop();
-            return Err(AllocError);
-        }
+        let number = self.table.push(Entry { node, zero_bytes })?;
         Ok(Term::new(number))
     }
 

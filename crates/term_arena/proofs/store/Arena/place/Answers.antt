@@ -1,52 +1,41 @@
-use Rattle.std.proofs.Common.{◌≡◌, length, [], ◌∷◌, ◌++◌, arith, sym, Some, None, inr}
+use Rattle.std.proofs.Common.{◌≡◌, length, [], ◌∷◌, ◌++◌, sym, subst, ap, ◌∙◌, Some, inr}
 use Rattle.std.specs.Prelude.{slice_get}
-use Rattle.std.specs.BTreeMap.{get, IsUnchanged, Updates}
-use Rattle.std.proofs.lemmas.Grind.{common_steps}
 use Rattle.std.proofs.lemmas.Option.{slice_get_within}
-use Rattle.term_arena.specs.declared.store.Entry.{Entry}
+use Rattle.term_arena.specs.declared.entries.Entry.{Entry}
 use Rattle.term_arena.specs.Trees.{tree_from, IsNodeAt}
-use Rattle.term_arena.specs.Nodes.{node_cmp}
-use Rattle.term_arena.specs.Entries.{nodes_of, entry_trees}
+use Rattle.term_arena.specs.Entries.{nodes_of, entry_trees, IsArena}
 use Rattle.term_arena.proofs.TreeLemmas.{tree_count, tree_of_node, extends_push}
 use Rattle.term_arena.proofs.IndexLemmas.{tree_of-end, longer}
-use Rattle.term_arena.proofs.EntryLemmas.{entry_count, entry_trees-push, IsArena-push, IsArena-unchanged}
+use Rattle.term_arena.proofs.EntryLemmas.{entry_count, entry_trees-push, nodes_of-get, IsArena-push}
 use Rattle.term_arena.proofs.store.Arena.place.Goals as goal
 
+-- the node that was found
+module _ (c : goal.After-new) where
+  at : slice_get (nodes_of c.self.inside.table) c.in-Some.number ≡ Some c.args.node
+  at = nodes_of-get c.self.inside.table c.in-Some.number c.in-Some.ensures.0 c.in-Some.ensures.1 ∙ ap Some c.in-Some.ensures.2
+
 pub returns-in-Some-clause-below : goal.returns-in-Some-clause-below
-returns-in-Some-clause-below c =
-    let at : slice_get (nodes_of c.self.inside.entries.items) c.in-Some.number.now ≡ Some c.args.node = c.self.invariant.indexed.back _ c.args.node (sym c.in-Some.ensures.value) in
-    rw (← c.self.view_is, c.new.ensures, tree_count (nodes_of c.self.inside.entries.items)) (slice_get_within _ _ _ at)
+returns-in-Some-clause-below c = rw (← c.self.view_is, c.new.ensures, tree_count (nodes_of c.self.inside.table)) (slice_get_within _ _ _ (at c))
 
 pub returns-in-Some-clause-tree : goal.returns-in-Some-clause-tree
-returns-in-Some-clause-tree c =
-    let at : slice_get (nodes_of c.self.inside.entries.items) c.in-Some.number.now ≡ Some c.args.node = c.self.invariant.indexed.back _ c.args.node (sym c.in-Some.ensures.value) in
-    rw (← c.self.view_is, c.new.ensures) (tree_of_node _ _ c.args.node at (c.self.invariant.indexed.ordered _ _ at))
-
-pub invariant_of-self-then-is_err : goal.invariant_of-self-then-is_err
-invariant_of-self-then-is_err c =
-    let same : IsUnchanged c.self.inside.numbers c.insert.new.self = grind (arith, common_steps) in
-    let back : c.pop.new.self.items ≡ c.self.inside.entries.items = grind (arith, common_steps) in
-    rw back (IsArena-unchanged _ c.self.inside.numbers _ same c.self.invariant)
-
-pub invariant_of-self-else-is_err : goal.invariant_of-self-else-is_err
-invariant_of-self-else-is_err c =
-    let entry : Entry = record { node = c.args.node; zero_bytes = c.zero_bytes_of-zero_bytes.result } in
-    let items : c.push.new.self.items ≡ c.self.inside.entries.items ++ entry ∷ [] = grind (arith, common_steps) in
-    let absent : get node_cmp c.self.inside.numbers c.args.node ≡ None = sym c.in-None.ensures.value in
-    let updates : Updates node_cmp c.self.inside.numbers c.insert.new.self c.args.node (Some (length c.self.inside.entries.items)) = grind (arith, common_steps) in
-    let below : IsNodeAt (length (entry_trees c.self.inside.entries.items)) c.args.node = rw (← c.self.view_is) at c.requires in
-    rw items (IsArena-push _ entry _ _ absent updates below (rw c.self.view_is c.zero_bytes_of-zero_bytes.ensures) c.self.invariant)
+returns-in-Some-clause-tree c = rw (← c.self.view_is, c.new.ensures) (tree_of_node _ _ c.args.node (at c) (c.self.invariant.ordered _ _ (at c)))
 
 module _ (c : goal.After-new-2) where
+  grown : c.push.new.self ≡ c.self.inside.table ++ record { node = c.args.node; zero_bytes = c.zero_bytes_of-zero_bytes.result } ∷ []
+  grown = c.in_ok-number.ensures.ok
+
   -- the trees, with that of the node at the end
-  more : entry_trees c.push.new.self.items ≡ c.args.self.now ++ tree_from c.args.self.now c.args.node ∷ []
-  more =
-      let entry : Entry = record { node = c.args.node; zero_bytes = c.zero_bytes_of-zero_bytes.result } in
-      let items : c.push.new.self.items ≡ c.self.inside.entries.items ++ entry ∷ [] = grind (arith, common_steps) in
-      rw (items, ← c.self.view_is) (entry_trees-push c.self.inside.entries.items entry)
+  more : entry_trees c.push.new.self ≡ c.args.self.now ++ tree_from c.args.self.now c.args.node ∷ []
+  more = rw (grown, ← c.self.view_is) (entry_trees-push c.self.inside.table (record { node = c.args.node; zero_bytes = c.zero_bytes_of-zero_bytes.result }))
 
   number : c.new-2.result ≡ length c.args.self.now
-  number = rw (← c.self.view_is, entry_count c.self.inside.entries.items) (omega arith)
+  number = c.new-2.ensures ∙ c.in_ok-number.ensures.number ∙ sym (entry_count c.self.inside.table) ∙ ap length c.self.view_is
+
+pub invariant_of-self-2 : goal.invariant_of-self-2
+invariant_of-self-2 c =
+    let entry : Entry = record { node = c.args.node; zero_bytes = c.zero_bytes_of-zero_bytes.result } in
+    let below : IsNodeAt (length (entry_trees c.self.inside.table)) c.args.node = rw (← c.self.view_is) at c.requires in
+    subst IsArena (sym c.in_ok-number.ensures.ok) (IsArena-push c.self.inside.table entry below (rw c.self.view_is c.zero_bytes_of-zero_bytes.ensures) c.self.invariant)
 
 pub returns-clause-below : goal.returns-clause-below
 returns-clause-below c = rw (more c) (longer c.args.self.now (tree_from c.args.self.now c.args.node) _ (number c))
