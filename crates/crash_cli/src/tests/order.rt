@@ -116,14 +116,18 @@ fn each_status_has_its_course(rt: HostRuntime) -> Result<(), Fail> {
     let nine: &[&str] = &["make", "p", "x", "--steps", "9"];
     let one: &[&str] = &["make", "p", "x", "--conflicts", "1"];
     let short: &[&str] = &["make", "p"];
+    let other_action: &[&str] = &["fetch", "p", "x"];
     let run: &[&str] = &["run", "p", "x"];
+    let check: &[&str] = &["check", "p", "x"];
     let other_program: &[&str] = &["make", "q", "x"];
     let other_input: &[&str] = &["make", "p", "y"];
     // Words, program, input, failing read and room; then status, names, pieces on out and on err.
     let cases = [
         (make, Kind::Stops, 0, 0, 4096, 0, "px", 1, 0),
         (short, Kind::Stops, 0, 0, 4096, 2, "", 0, 1),
-        (run, Kind::Stops, 0, 0, 4096, 2, "", 0, 1),
+        (other_action, Kind::Stops, 0, 0, 4096, 2, "", 0, 1),
+        (run, Kind::Exits, 0, 0, 4096, 0, "px", 1, 0),
+        (check, Kind::Exits, 0, 0, 4096, 10, "px", 0, 1),
         (make, Kind::Stops, 0, 1, 4096, 3, "p", 0, 1),
         (make, Kind::Stops, 0, 2, 4096, 3, "p", 0, 1),
         (make, Kind::Stops, 0, 3, 4096, 3, "px", 0, 1),

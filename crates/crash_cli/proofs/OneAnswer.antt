@@ -1,0 +1,42 @@
+-- Words have one answer over the files that are held.
+use Rattle.std.proofs.Common.{◌≡◌, ◌∙◌, ℕ, List, Option, Some, None, Result, Ok, Err, refl, sym, ap}
+use Rattle.fault_io.specs.Files.{Files}
+use Rattle.report_format.specs.Text.{Content, IsReport, text}
+use Rattle.report_format.specs.Reading.{FailsAt}
+use Rattle.crash_cli.specs.declared.answer.Refusal.{Refusal}
+use Rattle.crash_cli.specs.declared.answer.Role.TheVariants.{Program}
+use Rattle.crash_cli.specs.declared.answer.Answer.{Answer}
+use Rattle.crash_cli.specs.declared.words.Action.{Action}
+use Rattle.crash_cli.specs.declared.words.Action.TheVariants.{Make, Run, Replay, Check}
+use Rattle.crash_cli.specs.declared.words.Options.{Options}
+use Rattle.crash_cli.specs.Words.{Task}
+use Rattle.crash_cli.specs.Received.{IsReading, IsByReading, replay_answer, check_answer}
+use Rattle.crash_cli.specs.Answers.{read_of, role_of, IsAnswerOf, IsOfSecond, IsOfProgram, IsDone, IsAnswerTo}
+
+module _ (one_report : (a b : Content) → IsReport a → IsReport b → text a ≡ text b → a ≡ b) (one_line : (bytes : List ℕ) (m n : ℕ) → FailsAt m bytes → FailsAt n bytes → m ≡ n) where
+  one_reading : (bytes : List ℕ) (r q : Result Content ℕ) → IsReading bytes r → IsReading bytes q → r ≡ q
+  one_reading bytes (Ok a) (Ok b) is_a is_b = ap Ok (one_report a b is_a.report is_b.report (sym is_a.written ∙ is_b.written))
+  one_reading bytes (Ok a) (Err n) is_a fails = absurd (fails.no_text a is_a)
+  one_reading bytes (Err m) (Ok b) fails is_b = absurd (fails.no_text b is_b)
+  one_reading bytes (Err m) (Err n) fails other = ap Err (one_line bytes m n fails other)
+
+  by_one_reading : (answer_of : Result Content ℕ → Answer) (bytes : List ℕ) (a b : Answer) → IsByReading answer_of bytes a → IsByReading answer_of bytes b → a ≡ b
+  by_one_reading answer_of bytes a b is_a is_b = is_a.same ∙ ap answer_of (one_reading bytes is_a.reading is_b.reading is_a.read is_b.read) ∙ sym is_b.same
+
+  of_action : (action : Action) (p : List ℕ) (o : Options) (x : List ℕ) (a b : Answer) → IsAnswerOf action p o x a → IsAnswerOf action p o x b → a ≡ b
+  of_action Make p o x a b is_a is_b = is_a ∙ sym is_b
+  of_action Run p o x a b is_a is_b = is_a ∙ sym is_b
+  of_action Replay p o x a b is_a is_b = by_one_reading (replay_answer p) x a b is_a is_b
+  of_action Check p o x a b is_a is_b = by_one_reading (check_answer p o) x a b is_a is_b
+
+  of_second : (task : Task) (p : List ℕ) (read : Result (List ℕ) Refusal) (a b : Answer) → IsOfSecond task p read a → IsOfSecond task p read b → a ≡ b
+  of_second task p (Err refused) a b is_a is_b = is_a ∙ sym is_b
+  of_second task p (Ok x) a b is_a is_b = of_action task.action p task.options x a b is_a is_b
+
+  of_program : (task : Task) (held : Files) (read : Result (List ℕ) Refusal) (a b : Answer) → IsOfProgram task held read a → IsOfProgram task held read b → a ≡ b
+  of_program task held (Err refused) a b is_a is_b = is_a ∙ sym is_b
+  of_program task held (Ok p) a b is_a is_b = of_second task p (read_of (role_of task.action) (held task.second)) a b is_a is_b
+
+  pub one_answer : (asked : Option Task) (held : Files) (a b : Answer) → IsAnswerTo asked held a → IsAnswerTo asked held b → a ≡ b
+  one_answer None held a b is_a is_b = is_a ∙ sym is_b
+  one_answer (Some task) held a b is_a is_b = of_program task held (read_of Program (held task.program)) a b is_a is_b
