@@ -1,6 +1,7 @@
 //! Files that are read and written: the worked cases, and files near them.
 
 mod building;
+mod demo;
 mod linked;
 mod reading;
 

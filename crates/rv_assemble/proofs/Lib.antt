@@ -3,3 +3,4 @@ pub mod Sums
 pub mod Readback
 pub mod Ready
 pub mod Texts
+pub mod DemoLemmas

@@ -4,13 +4,17 @@
 
 mod assemble;
 mod bytes;
+mod demo;
+mod demo_code;
 mod error;
 mod laws;
+mod mnemonics;
 mod region;
 mod write;
 
 pub use assemble::build;
 pub use bytes::Bytes;
+pub use demo::{DemoCase, DemoKind, demo_case};
 pub use error::BuildError;
 pub use laws::code_has_one_file;
 pub use region::Region;
