@@ -1,5 +1,5 @@
 -- Memory without its bytes, and terms over it.
-use Rattle.std.proofs.Common.{◌≡◌, ℕ, zero, suc, ◌+◌, ◌-◌, ◌==◌, ◌||◌, List, [], ◌∷◌, ◌++◌, map, Option, Some, None, Bool, true, false, cond, min, refl, sym, ap, ◌∙◌, if◌then◌else◌}
+use Rattle.std.proofs.Common.{◌≡◌, ℕ, zero, suc, ◌-◌, ◌==◌, ◌||◌, List, [], ◌∷◌, ◌++◌, map, Option, Some, None, Bool, true, false, cond, min, refl, sym, ap, ◌∙◌, if◌then◌else◌}
 use Rattle.std.specs.Option.{option_map}
 use Rattle.std.specs.Ordering.{nat_cmp, eq_by_cmp}
 use Rattle.std.specs.Cmp.{nat_cmp_total}
@@ -19,9 +19,8 @@ use Rattle.rv_event.specs.declared.event.End.{End}
 use Rattle.rv_decode.specs.Table.{decoded}
 use Rattle.rv_decode.specs.declared.instr.Instr.{Instr}
 use Rattle.rv_decode.specs.declared.instr.Instr.TheVariants.{Lui, Auipc, Jal, Jalr, Branch, Load, Store, AluImm, AluReg, Fence, Ecall, Ebreak}
-use Rattle.term_model.specs.Tree.{Tree}
 use Rattle.normal_form.specs.Norm.{norm}
-use Rattle.replay_law.specs.Terms.{SymbolicState, call_value, put_reg, after_reply, after_row, after_instr, terms_after}
+use Rattle.replay_law.specs.Terms.{SymbolicState, call_value, after_reply, after_row, after_instr, terms_after}
 use Rattle.replay_law.specs.Follow.{fetch_conditions, row_conditions, instr_conditions, conditions_by, event_conditions, shown_next, follow}
 use Rattle.sym_replay.specs.Cells.{without_byte, without_bytes, over_bare_cells}
 

@@ -1,13 +1,12 @@
 -- The terms that stand at the addresses of a heap whose break moves.
-use Rattle.std.proofs.Common.{◌≡◌, ℕ, ◌^◌, ◌+◌, ◌-◌, ◌<◌, ◌≤◌, ◌==◌, ◌||◌, ◌&&◌, nat_le, nat_lt, min, max, All, length, if◌then◌else◌, Result, Ok, Err, OnOk, List, Option, Some, None, Bool, true, false, cond, refl, sym, ap, ◌∙◌, arith, subst, inl, inr}
+use Rattle.std.proofs.Common.{◌≡◌, ℕ, ◌-◌, ◌<◌, ◌≤◌, ◌||◌, ◌&&◌, nat_le, nat_lt, min, max, if◌then◌else◌, Result, Ok, Err, OnOk, List, Option, Some, None, Bool, true, false, cond, refl, ap, ◌∙◌, arith, inl, inr}
 use Rattle.std.proofs.lemmas.Bool.{cases_lt}
-use Rattle.std.proofs.lemmas.Grind.{common_steps}
 use Rattle.std.specs.Ordering.{nat_cmp}
 use Rattle.std.specs.BTreeMap.{BTreeMap, get, Updates, is_at}
 use Rattle.std.specs.FinMap as finmap
 use Rattle.memory_map.specs.Cells.{Map, Cell, byte_at, byte_of_cell}
 use Rattle.memory_map.specs.declared.heap.Heap.{Heap}
-use Rattle.memory_map.specs.Heaps.{Space, heap_cell, may_break, with_break, after_break, is_in_span}
+use Rattle.memory_map.specs.Heaps.{heap_cell, may_break, with_break, after_break, is_in_span}
 use Rattle.memory_map.proofs.Heaps.{get-with_break}
 use Rattle.term_model.specs.Tree.{Tree, Const}
 use Rattle.sym_replay.specs.declared.state.ReplayState.{ReplayState}

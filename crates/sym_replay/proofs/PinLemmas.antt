@@ -13,13 +13,14 @@ use Rattle.term_model.specs.declared.Op.TheVariants.{Alu, Eq}
 use Rattle.term_model.specs.Same.{same_tree}
 use Rattle.normal_form.specs.Norm.{norm}
 use Rattle.replay_law.specs.Terms.{SymbolicState}
-use Rattle.replay_law.specs.Follow.{fetch_conditions, instr_conditions, conditions_by}
+use Rattle.replay_law.specs.Follow.{fetched_byte, fetch_conditions, instr_conditions, conditions_by}
 use Rattle.path_condition.proofs.ListLemmas.{with_conditions-none}
 use Rattle.sym_replay.specs.declared.state.ReplayState.{ReplayState}
 use Rattle.sym_replay.specs.declared.value.Value.{Value}
 use Rattle.sym_replay.specs.declared.value.Value.TheVariants.{Known}
 use Rattle.sym_replay.specs.Values.{value_tree, IsSameNumber}
-use Rattle.sym_replay.specs.States.{register_tree, IsState}
+use Rattle.memory_map.specs.Cells.{next_address}
+use Rattle.sym_replay.specs.States.{byte_tree, terms_of, register_tree, IsKnownByte, IsKnownWord, IsState}
 use Rattle.sym_replay.specs.Pins.{IsTarget, IsKnownTarget}
 use Rattle.sym_replay.proofs.ValueLemmas.{grown_values, folded, same_number, byte_known}
 
@@ -112,3 +113,17 @@ equal_numbers ts trees a b same =
     four_ones ts (same_byte norm (Const same.0) (Const same.0) 0) (same_byte norm (Const same.0) (Const same.0) 1) (same_byte norm (Const same.0) (Const same.0) 2) (same_byte norm (Const same.0) (Const same.0) 3)
     (byte_same same.0 0 (omega arith)) (byte_same same.0 1 (omega arith)) (byte_same same.0 2 (omega arith)) (byte_same same.0 3 (omega arith))
     ∙ sym (λ i. with_conditions ts (equal norm (value_tree trees (same.1 i)) (value_tree trees (same.2 i))))
+
+fetched_one : (trees : List Tree) (s : ReplayState) (a b : ℕ) → IsKnownByte s a b → norm Eq ((terms_of trees s).bytes a) (Const b) ≡ Const 1
+fetched_one trees s a b known =
+    ap (λ t. norm Eq t (Const b)) (sym (ap (byte_tree trees s.memory.map a) known.none) ∙ ap Const known.is) ∙ same_number b
+
+-- nor does the fetch of a word whose bytes are known
+pub fetched_word : (ts trees : List Tree) (s : ReplayState) (a word : ℕ) → IsKnownWord s a word → ts ≡ with_conditions ts (fetch_conditions norm (terms_of trees s) a word)
+fetched_word ts trees s a word known =
+    let terms = terms_of trees s in
+    let second = next_address a in
+    let third = next_address second in
+    let fourth = next_address third in
+    four_ones ts (fetched_byte norm terms a word 0) (fetched_byte norm terms second word 1) (fetched_byte norm terms third word 2) (fetched_byte norm terms fourth word 3)
+    (fetched_one trees s a (byte_of 0 word) known.lowest) (fetched_one trees s second (byte_of 1 word) known.second) (fetched_one trees s third (byte_of 2 word) known.third) (fetched_one trees s fourth (byte_of 3 word) known.highest)

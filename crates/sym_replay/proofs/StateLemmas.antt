@@ -1,12 +1,12 @@
 -- States of the replay.
-use Rattle.std.proofs.Common.{◌≡◌, ℕ, zero, suc, ◌<◌, ◌≤◌, ◌^◌, List, [], ◌∷◌, length, set, replicate, min, max, All, Option, Some, None, Bool, true, false, cond, refl, sym, ap, ◌∙◌, arith, subst, ◌==◌, if◌then◌else◌}
+use Rattle.std.proofs.Common.{◌≡◌, ℕ, zero, suc, ◌<◌, ◌≤◌, ◌^◌, List, [], ◌∷◌, set, replicate, min, max, All, Option, Some, None, Bool, true, false, cond, refl, sym, ap, ◌∙◌, arith, subst, ◌==◌, if◌then◌else◌}
 use Rattle.std.specs.Ordering.{nat_cmp}
 use Rattle.std.specs.BTreeMap.{BTreeMap, get, Updates, is_at}
 use Rattle.std.proofs.lemmas.Bool.{eqb-true}
 use Rattle.std.proofs.lemmas.Grind.{common_steps}
 use Rattle.std.proofs.lemmas.List.{map-set}
 use Rattle.term_model.specs.Tree.{Tree, Const, Input}
-use Rattle.term_arena.specs.Trees.{tree_of, Extends}
+use Rattle.term_arena.specs.Trees.{Extends}
 use Rattle.std.specs.FinMap as finmap
 use Rattle.memory_map.specs.Cells.{Map, byte_at, can, write, with_byte, next_address}
 use Rattle.memory_map.specs.Heaps.{Space}
@@ -15,7 +15,7 @@ use Rattle.sym_replay.specs.declared.state.ReplayState.{ReplayState}
 use Rattle.sym_replay.specs.declared.value.Value.{Value}
 use Rattle.sym_replay.specs.declared.value.Value.TheVariants.{Known, Term}
 use Rattle.sym_replay.specs.Cells.{without_bytes}
-use Rattle.sym_replay.specs.Values.{value_tree, IsTermIn, IsValueIn, IsValueOf}
+use Rattle.sym_replay.specs.Values.{value_tree, IsTermIn, IsValueOf}
 use Rattle.sym_replay.specs.States.{byte_tree, value_trees, terms_of, AreWithin, IsState}
 use Rattle.sym_replay.proofs.CellLemmas.{stored_bare, stored_byte}
 use Rattle.sym_replay.proofs.ValueLemmas.{grown_term, grown_value, grown_values}
@@ -63,6 +63,7 @@ put_state trees s new address t lowest highest h here updates low high = record 
     by_test : (b : Bool) (a u : ℕ) → cond b (Some t) (get nat_cmp s.bytes a) ≡ Some u → IsTermIn trees u
     by_test true a u e = let same : t ≡ u = cc in subst (IsTermIn trees) same here
     by_test false a u e = h.bytes a u e
+
     in_range : (b : Bool) (a u : ℕ) → is_at (nat_cmp address) a ≡ b → cond b (Some t) (get nat_cmp s.bytes a) ≡ Some u → (lowest ≤ a) × (a ≤ highest)
     in_range true a u at e = let same : a ≡ address = at_key address a at in (omega (arith, same, low), omega (arith, same, high))
     in_range false a u at e = let old = h.within a u e in (omega (arith, old.0, low), omega (arith, old.1, high))
@@ -94,6 +95,7 @@ fewer_terms trees s new gone h left = record {
     by_test : (b : Bool) (a t : ℕ) → cond b None (get nat_cmp s.bytes a) ≡ Some t → get nat_cmp s.bytes a ≡ Some t
     by_test true a t e = cc
     by_test false a t e = e
+
     still : (a t : ℕ) → get nat_cmp new a ≡ Some t → get nat_cmp s.bytes a ≡ Some t
     still a t e = by_test (gone a) a t (sym (left a) ∙ e)
 
@@ -152,8 +154,10 @@ number_put trees s new memory a b may stored left = (λ i. record {
   where
     after : Map
     after = with_byte s.memory.map a b (finmap.get s.memory.map a)
+
     byte : (q : ℕ) → byte_tree trees memory.map q (get nat_cmp new q) ≡ with_tree (terms_of trees s).bytes a (Const b) q
     byte q = (λ i. byte_tree trees (stored i).map q (get nat_cmp new q)) ∙ replaced trees s.memory.map after q b (get nat_cmp s.bytes q) (get nat_cmp new q) (q == a) (left q) (stored_byte s.memory.map a b q may)
+
     cells : without_bytes memory.map ≡ without_bytes s.memory.map
     cells = (λ i. without_bytes (stored i).map) ∙ stored_bare s.memory.map a b
 

@@ -1,12 +1,12 @@
 -- Values of an arena that has grown, and operations on numbers.
-use Rattle.std.proofs.Common.{◌≡◌, ℕ, zero, suc, ◌<◌, ◌^◌, ◌%◌, List, [], ◌∷◌, length, All, Bool, true, refl, sym, ap, ◌∙◌, arith, subst, nat_eq}
+use Rattle.std.proofs.Common.{◌≡◌, ℕ, suc, ◌<◌, ◌%◌, List, [], ◌∷◌, All, true, refl, sym, ap, ◌∙◌, arith, subst, nat_eq}
 use Rattle.std.specs.Int.{from_bool}
 use Rattle.rv_word.specs.Word.{byte_of}
 use Rattle.term_model.specs.declared.Op.{Op}
-use Rattle.term_model.specs.declared.Op.TheVariants.{Alu, Eq, Byte}
+use Rattle.term_model.specs.declared.Op.TheVariants.{Eq, Byte}
 use Rattle.term_model.specs.Tree.{Tree, Const}
 use Rattle.term_model.specs.Value.{op_value}
-use Rattle.term_arena.specs.Trees.{tree_of, Extends}
+use Rattle.term_arena.specs.Trees.{Extends}
 use Rattle.normal_form.specs.Norm.{norm}
 use Rattle.normal_form.specs.Normal.{IsNormal}
 use Rattle.normal_form.specs.Rules.{first_rule, ordering_rules}

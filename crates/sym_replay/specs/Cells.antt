@@ -1,5 +1,5 @@
 -- Memory without its bytes: which addresses it has, with which rights.
-use Rattle.std.specs.Prelude.{ℕ, map}
+use Rattle.std.specs.Prelude.{map}
 use Rattle.std.specs.FinMap.{entries, from_entries}
 use Rattle.memory_map.specs.Cells.{Map, Cell}
 use Rattle.replay_law.specs.Terms.{SymbolicState}

@@ -4,7 +4,8 @@ use Rattle.std.specs.Ordering.{nat_cmp}
 use Rattle.std.specs.BTreeMap.{BTreeMap, get}
 use Rattle.term_model.specs.Tree.{Tree, Const}
 use Rattle.term_arena.specs.Trees.{tree_of}
-use Rattle.memory_map.specs.Cells.{Map, byte_at}
+use Rattle.rv_word.specs.Word.{byte_of}
+use Rattle.memory_map.specs.Cells.{Map, byte_at, next_address}
 use Rattle.replay_law.specs.Terms.{SymbolicState}
 use Rattle.sym_replay.specs.Cells.{without_bytes}
 use Rattle.sym_replay.specs.Values.{value_tree, IsTermIn, IsValueIn}
@@ -32,6 +33,18 @@ register_tree trees s r = slice_index_or (value_trees trees s.registers) r (Cons
 -- each address that has a term lies in a range
 abbrev pub AreWithin : BTreeMap ℕ ℕ → ℕ → ℕ → Type 0
 AreWithin bytes lowest highest = (a t : ℕ) → get nat_cmp bytes a ≡ Some t → (lowest ≤ a) × (a ≤ highest)
+
+-- the byte at an address is no term, and is this one
+pub record IsKnownByte (s : ReplayState) (address byte : ℕ) : Type 0 where
+  pub none : None ≡ get nat_cmp s.bytes address
+  pub is : byte_at s.memory.map address ≡ byte
+
+-- the four bytes from an address up are no terms, and are those of a word
+pub record IsKnownWord (s : ReplayState) (address word : ℕ) : Type 0 where
+  pub lowest : IsKnownByte s address (byte_of 0 word)
+  pub second : IsKnownByte s (next_address address) (byte_of 1 word)
+  pub third : IsKnownByte s (next_address (next_address address)) (byte_of 2 word)
+  pub highest : IsKnownByte s (next_address (next_address (next_address address))) (byte_of 3 word)
 
 -- the values and terms of a state are of the arena
 pub record IsState (trees : List Tree) (s : ReplayState) : Type 0 where

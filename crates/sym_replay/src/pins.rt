@@ -234,6 +234,9 @@ fn add_fetch(
     ensures listed { Belong arena.new conditions.new }
     ensures keeps { Extends arena.old arena.new }
 {
+    if state.knows_word(address, word) {
+        return Ok(());
+    }
     let second = address.wrapping_add(1);
     let third = second.wrapping_add(1);
     let fourth = third.wrapping_add(1);

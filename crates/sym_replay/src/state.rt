@@ -9,7 +9,7 @@ ghost use Rattle.memory_map.specs.Heaps.{may_break, with_break};
 ghost use Rattle.replay_law.specs.Terms.{reg_term, put_reg, put_trees, with_tree, zero_between, start_terms};
 ghost use Rattle.sym_replay.specs.Cells.{without_bytes, over_bare_cells};
 ghost use Rattle.sym_replay.specs.Values.{value_tree, IsTermIn, IsValueIn, IsValueOf};
-ghost use Rattle.sym_replay.specs.States.{terms_of, register_tree, AreWithin, IsState};
+ghost use Rattle.sym_replay.specs.States.{terms_of, register_tree, AreWithin, IsKnownByte, IsKnownWord, IsState};
 ghost use Rattle.std.specs.Ordering.{nat_cmp};
 ghost use Rattle.std.specs.BTreeMap.{get};
 
@@ -17,6 +17,7 @@ use crate::value::Value;
 use elf32::Image;
 use memory_map::{Heap, Memory};
 use no_memory::NoMemory;
+use rv_word::byte_of;
 use std::alloc::Global;
 use std::collections::BTreeMap;
 use term_arena::{Arena, Term};
@@ -91,6 +92,28 @@ impl ReplayState {
             Some(t) => Some(*t),
             None => None,
         }
+    }
+
+    /// Whether the byte at an address is known to be this one.
+    fn knows(&self, address: u32, byte: u8) -> bool
+        requires { AreWithin self.now.bytes self.now.lowest self.now.highest }
+        ensures { result ≡ true → IsKnownByte self.now address byte }
+    {
+        self.term_at(address).is_none() && self.memory.byte(address) == byte
+    }
+
+    /// Whether the four bytes from an address up are known to be those of a word.
+    pub(crate) fn knows_word(&self, address: u32, word: u32) -> bool
+        requires { AreWithin self.now.bytes self.now.lowest self.now.highest }
+        ensures { result ≡ true → IsKnownWord self.now address word }
+    {
+        let second = address.wrapping_add(1);
+        let third = second.wrapping_add(1);
+        let fourth = third.wrapping_add(1);
+        self.knows(address, byte_of(0, word))
+            && self.knows(second, byte_of(1, word))
+            && self.knows(third, byte_of(2, word))
+            && self.knows(fourth, byte_of(3, word))
     }
 
     /// The value of the byte at an address.

@@ -8,8 +8,13 @@ use Rattle.path_condition.proofs.ListLemmas.{then_ok}
 use Rattle.sym_replay.specs.States.{terms_of}
 use Rattle.sym_replay.proofs.ValueLemmas.{further}
 use Rattle.sym_replay.proofs.StateLemmas.{grown_terms}
-use Rattle.sym_replay.proofs.PinLemmas.{four_more}
+use Rattle.sym_replay.proofs.PinLemmas.{four_more, fetched_word}
 use Rattle.sym_replay.proofs.pins.add_fetch.Goals as goal
+
+pub returns-then-knows_word-clause-trees : goal.returns-then-knows_word-clause-trees
+returns-then-knows_word-clause-trees c =
+    fetched_word (trees_of c.args.arena.now c.args.conditions.now) c.args.arena.now c.args.state.now c.args.address c.args.word
+    (c.knows_word.ensures c.if-knows_word.true)
 
 pub returns-clause-trees : goal.returns-clause-trees
 returns-clause-trees c =

@@ -1,4 +1,4 @@
-use Rattle.std.proofs.Common.{◌≡◌, ◌∙◌, ap, ◌∷◌, []}
+use Rattle.std.proofs.Common.{◌≡◌, ◌∙◌, ◌∷◌, []}
 use Rattle.rv_word.specs.Word.{byte_of}
 use Rattle.term_model.specs.declared.Op.TheVariants.{Eq}
 use Rattle.term_model.specs.Tree.{Const}

@@ -1,4 +1,4 @@
-use Rattle.std.proofs.Common.{◌≡◌, ℕ, ◌∙◌, sym}
+use Rattle.std.proofs.Common.{◌∙◌}
 use Rattle.sym_replay.proofs.HeapLemmas.{one_cleared, none_left}
 use Rattle.sym_replay.proofs.state.ReplayState.clear.Goals as goal
 

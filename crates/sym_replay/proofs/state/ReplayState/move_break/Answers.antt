@@ -1,8 +1,7 @@
-use Rattle.std.proofs.Common.{◌≡◌, ℕ, sym, ap, ◌∙◌, Some, subst}
+use Rattle.std.proofs.Common.{ℕ, sym, ap, ◌∙◌, subst}
 use Rattle.std.specs.Ordering.{nat_cmp}
 use Rattle.std.specs.BTreeMap.{get}
 use Rattle.memory_map.specs.Heaps.{Space, after_break}
-use Rattle.memory_map.specs.declared.heap.Heap.{Heap}
 use Rattle.sym_replay.specs.declared.state.ReplayState.{ReplayState}
 use Rattle.sym_replay.specs.Cells.{without_bytes}
 use Rattle.sym_replay.specs.States.{byte_tree, value_trees, IsState}

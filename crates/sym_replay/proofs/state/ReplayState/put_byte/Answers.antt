@@ -1,8 +1,8 @@
-use Rattle.std.proofs.Common.{◌≡◌, ◌∙◌, sym, ap, Bool, if◌then◌else◌}
+use Rattle.std.proofs.Common.{◌∙◌, ap, Bool, if◌then◌else◌}
 use Rattle.replay_law.specs.Terms.{with_tree}
 use Rattle.path_condition.proofs.ListLemmas.{then_ok}
 use Rattle.sym_replay.specs.Values.{value_tree}
-use Rattle.sym_replay.specs.States.{terms_of, IsState}
+use Rattle.sym_replay.specs.States.{terms_of}
 use Rattle.sym_replay.proofs.ValueLemmas.{term_in}
 use Rattle.sym_replay.proofs.StateLemmas.{with_bytes, grown_state, grown_terms}
 use Rattle.sym_replay.proofs.state.ReplayState.put_byte.Goals as goal

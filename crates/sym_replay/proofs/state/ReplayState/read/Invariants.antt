@@ -1,6 +1,5 @@
 use Rattle.std.proofs.Common.{◌≡◌, ◌+◌, ◌-◌}
 use Rattle.term_arena.specs.Trees.{Extends}
-use Rattle.memory_map.specs.Cells.{Map}
 use Rattle.replay_law.specs.Terms.{put_trees, input_terms}
 use Rattle.sym_replay.specs.States.{terms_of, IsState}
 use Rattle.sym_replay.proofs.state.ReplayState.read.Given as goal
