@@ -1,6 +1,7 @@
 use Rattle.std.proofs.Common.{◌<◌, arith}
 use Rattle.std.proofs.lemmas.Option.{slice_get_read}
 use Rattle.core.specs.Mem.Slots.{slots_items}
+use Rattle.term_arena.specs.declared.chunks.TheConstants.{PLACES}
 use Rattle.term_arena.proofs.ListLemmas.{count, index_within, chunk_read, row_length, item_read}
 use Rattle.term_arena.proofs.chunks.list.ChunkList.get.Goals as goal
 
@@ -21,4 +22,4 @@ returns g c =
     let chunk = c.index-chunk.result.now in
     let there = chunk_read l ok c.args.number chunk (index_within l ok c.args.number lt) c.index-chunk.ensures in
     let long = row_length l.alloc chunk (ok.each _ _ there) in
-    item_read l ok c.args.number _ _ lt there (slice_get_read (slots_items chunk.slots) 1024 _ c.get.result.now (omega arith) (omega arith) c.get.ensures)
+    item_read l ok c.args.number _ _ lt there (slice_get_read (slots_items chunk.slots) PLACES _ c.get.result.now (omega arith) (omega arith) c.get.ensures)
