@@ -1,14 +1,14 @@
 -- Trimming by halves.
-use Rattle.std.proofs.Common.{◌≡◌, ℕ, ◌+◌, ◌-◌, ◌<◌, ◌≤◌, Bool, true, false, List, [], ◌∷◌, ◌++◌, sym, inl, inr, ◌∙◌, ap, arith, length, take, drop, get_or, subst, drop-cons, add-one, append_assoc, refl}
-use Rattle.std.specs.Prelude.{Contains, All, Result, Ok, Err, IfOk}
+use Rattle.std.proofs.Common.{◌≡◌, ℕ, ◌+◌, ◌-◌, ◌<◌, ◌≤◌, Bool, true, false, List, [], ◌∷◌, ◌++◌, sym, inl, inr, ◌∙◌, ap, arith, length, take, drop, get_or, subst, drop-cons, add-one}
+use Rattle.std.specs.Prelude.{Contains, Result, Ok, Err, IfOk}
 use Rattle.std.proofs.lemmas.List.{take_more, drop_all, drop-drop, take-append-drop, take-take, length-take, length-drop, take_all}
-use Rattle.std.proofs.Math.Seq.{take-add, take-append_seam, drop-append_seam}
-use Rattle.std.proofs.lemmas.List.Elements.{All-append, All-drop, All-take, All-push, Contains-append_left, Contains-append_right, Contains-append_cases}
+use Rattle.std.proofs.Math.Seq.{take-add, take-append_seam}
+use Rattle.std.proofs.lemmas.List.Elements.{All-append, All-drop, All-take, Contains-append_left, Contains-append_right, Contains-append_cases}
 use Rattle.gate_net.specs.declared.literals.Lit.{Lit}
 use Rattle.gate_net.specs.Lits.{AreNamed}
 use Rattle.search_model.specs.Literals.{named}
 use Rattle.search_model.specs.Tests.{is_conflict}
-use Rattle.search_model.specs.Search.{Trimmed, trimmed, trim}
+use Rattle.search_model.specs.Search.{Trimmed, trimmed}
 use Rattle.search_model.specs.Growing.{IsMonotone}
 use Rattle.search_laws.proofs.ListLemmas.{bool_cases}
 use Rattle.search_laws.proofs.LitLemmas.{named_are_literals}

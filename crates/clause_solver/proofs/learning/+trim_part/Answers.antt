@@ -1,4 +1,4 @@
-use Rattle.std.proofs.Common.{◌≡◌, ◌+◌, ◌-◌, ◌/◌, ◌<◌, ◌≤◌, ◌++◌, List, Bool, true, false, take, drop, length, arith, sym, ◌∙◌, ap, subst}
+use Rattle.std.proofs.Common.{◌≡◌, ◌+◌, ◌-◌, ◌/◌, ◌≤◌, ◌++◌, List, Bool, true, false, take, drop, length, arith, sym, ◌∙◌, ap, subst}
 use Rattle.std.proofs.lemmas.List.{take_rest}
 use Rattle.gate_net.specs.declared.literals.Lit.{Lit}
 use Rattle.gate_net.specs.Lits.{AreNamed}
@@ -7,7 +7,7 @@ use Rattle.search_model.specs.Literals.{named}
 use Rattle.search_model.specs.Tests.{is_conflict}
 use Rattle.clause_solver.specs.Solved.{SameClauses, HaveSame, Trims}
 use Rattle.clause_solver.proofs.ReachedLemmas.{then_same}
-use Rattle.clause_solver.proofs.TrimLemmas.{later_base, left_base, left_more, part_named, trims_skip, trims_keep, conflicts_grow, ok_more, new_named, old_named, new_test, old_trims, told, all_after}
+use Rattle.clause_solver.proofs.TrimLemmas.{later_base, left_base, part_named, trims_skip, trims_keep, conflicts_grow, ok_more, new_named, old_named, new_test, old_trims, told, all_after}
 use Rattle.clause_solver.proofs.learning.+trim_part.Goals as goal
 
 pub returns-then-end-start-eq1-clause-trimmed : goal.returns-then-end-start-eq1-clause-trimmed
