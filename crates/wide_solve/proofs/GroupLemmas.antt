@@ -1,5 +1,5 @@
 -- A group with its gates: what the search finds, and the sets.
-use Rattle.std.proofs.Common.{◌≡◌, ℕ, ◌+◌, ◌*◌, ◌/◌, ◌%◌, ◌-◌, ◌^◌, ◌<◌, ◌≤◌, Bool, true, false, List, [], ◌∷◌, ◌++◌, refl, sym, ◌∙◌, ap, subst, arith, length, map, take, get_or, nat_eq}
+use Rattle.std.proofs.Common.{◌≡◌, ℕ, ◌*◌, ◌<◌, Bool, false, List, [], sym, ◌∙◌, ap, subst, length, map, get_or}
 use Rattle.std.specs.Prelude.{◌≢◌, All, Result, Err, slice_index}
 use Rattle.std.proofs.lemmas.List.{length-map}
 use Rattle.term_model.specs.Tree as term
@@ -17,8 +17,8 @@ use Rattle.search_model.specs.Search.{conflict_count, ends_in_conflict, values_f
 use Rattle.search_model.specs.Model.{Settles}
 use Rattle.wide_laws.specs.Bytes.{AreRoots, bytes_of}
 use Rattle.wide_laws.specs.Formula.{signed_trees, formula_of, order_of}
-use Rattle.wide_laws.specs.Roots.{AreConditions, roots_of, conflicts_of, frees, wide_values}
-use Rattle.wide_laws.specs.Sets.{fixed_from, force_roots, agreeing, yes_name}
+use Rattle.wide_laws.specs.Roots.{roots_of, conflicts_of, frees, wide_values}
+use Rattle.wide_laws.specs.Sets.{fixed_from, force_roots, agreeing}
 use Rattle.wide_laws.proofs.First.{is_group_first}
 use Rattle.wide_laws.proofs.Joined.{settles, never_unsatisfiable}
 use Rattle.wide_solve.specs.Agreeing.{AreSets}

@@ -1,5 +1,5 @@
 -- Groups of the tests, on the first three bytes.
-use Rattle.std.proofs.Common.{◌≡◌, ℕ, zero, suc, ◌<◌, ◌≤◌, List, [], ◌∷◌, Bool, true, length, refl, sym, ◌∙◌, ap, arith, rules}
+use Rattle.std.proofs.Common.{◌≡◌, ℕ, zero, suc, ◌<◌, ◌≤◌, List, [], ◌∷◌, true, length, refl, sym, ◌∙◌, ap, arith, rules}
 use Rattle.std.specs.Prelude.{All, Contains}
 use Rattle.term_model.specs.declared.Op.TheVariants.{Eq}
 use Rattle.term_model.specs.Tree.{Tree, Apply}

@@ -1,4 +1,4 @@
-use Rattle.std.proofs.Common.{◌≡◌, ◌*◌, ◌<◌, ℕ, List, [], refl, sym, ◌∙◌, ap, subst, length}
+use Rattle.std.proofs.Common.{◌≡◌, List, [], refl, sym, ◌∙◌, ap, subst, length}
 use Rattle.std.specs.Prelude.{slice_index_or}
 use Rattle.byte_sets.specs.ByteSet.{has}
 use Rattle.byte_sets.specs.declared.ByteSet.{ByteSet}
@@ -6,7 +6,6 @@ use Rattle.gate_model.specs.Tree.{Tree}
 use Rattle.gate_net.specs.declared.literals.Lit.{Lit}
 use Rattle.gate_net.specs.Lits.{AreNamed}
 use Rattle.gate_net.specs.Trees.{all_signed_of}
-use Rattle.wide_laws.specs.Formula.{order_of}
 use Rattle.wide_laws.specs.Sets.{fixed_from, force_roots}
 use Rattle.wide_solve.specs.Gates.{IsTied, AreSigned}
 use Rattle.wide_solve.proofs.GroupLemmas.{tied_as, own_order, tied_possible, tied_sets}
