@@ -24,11 +24,11 @@ pub returns-then-places-eq1-clause-sets : goal.returns-then-places-eq1-clause-se
 returns-then-places-eq1-clause-sets c = record {
   two = λ two y within has_at. absurd (omega (arith, two, c.if-places-eq1.true));
   one = λ one y within.
-    let test : List ℕ → Bool = holds (trees_of c.args.arena.now c.args.conditions.now) in
-    let low : ℕ = slice_index c.args.places.now 0 in
-    two_sets (has c.values_at-values.result) (has c.full.result) (freed test y low) (λ v. nat_lt v 256)
-    (c.values_at-values.ensures.values ∙ freed_is_one test low (looks_one c.args.arena.now c.args.places.now c.args.conditions.now c.requires.narrow.group one) c.args.trial.now (c.requires.narrow.within 0 0 c.requires.narrow.some) y within)
-    c.full.ensures;
+      let test : List ℕ → Bool = holds (trees_of c.args.arena.now c.args.conditions.now) in
+      let low : ℕ = slice_index c.args.places.now 0 in
+      two_sets (has c.values_at-values.result) (has c.full.result) (freed test y low) (λ v. nat_lt v 256)
+      (c.values_at-values.ensures.values ∙ freed_is_one test low (looks_one c.args.arena.now c.args.places.now c.args.conditions.now c.requires.narrow.group one) c.args.trial.now (c.requires.narrow.within 0 0 c.requires.narrow.some) y within)
+      c.full.ensures;
 }
 
 pub values_at-lower-requires-clause-reads : goal.values_at-lower-requires-clause-reads
@@ -66,15 +66,15 @@ pub returns-clause-sets : goal.returns-clause-sets
 returns-clause-sets c = record {
   one = λ one y within. absurd (omega (arith, one, c.if-places-eq1.false));
   two = λ two y within has_at.
-    let order : slice_index c.args.places.now 0 < slice_index c.args.places.now 1 = in_order c.args.arena.now c.args.places.now c.args.conditions.now c.requires.narrow.group two in
-    let there : slice_index c.args.places.now 1 < length c.args.trial.now = c.requires.narrow.within 1 0 (omega arith) in
-    let x : List ℕ = with_pair c.args.trial.now (slice_index c.args.places.now 0) (slice_index c.args.places.now 1) (slice_index c.args.first 0) (slice_index c.args.first 1) in
-    let sets = sets_of_two c.args.arena.now c.args.places.now c.args.conditions.now c.requires.narrow.group two x c.values_at-lower.new.trial y (has c.values_at-lower.result) (has c.values_beside-higher.result)
-    (rw (length-set, length-set) there) (omega (arith, length-set {A = ℕ})) within
-    (at_high c.args.trial.now (slice_index c.args.places.now 0) (slice_index c.args.places.now 1) (slice_index c.args.first 0) (slice_index c.args.first 1) order there ∙ sym (has_at 1 (omega arith)))
-    c.values_at-lower.ensures.values c.values_beside-higher.ensures.values in
-    let test : List ℕ → Bool = holds (trees_of c.args.arena.now c.args.conditions.now) in
-    let low : ℕ = slice_index c.args.places.now 0 in
-    let high : ℕ = slice_index c.args.places.now 1 in
-    two_sets (has c.values_at-lower.result) (has c.values_beside-higher.result) (freed test y low) (freed_beside test (freed test y low) y low high) sets.0 sets.1;
+      let order : slice_index c.args.places.now 0 < slice_index c.args.places.now 1 = in_order c.args.arena.now c.args.places.now c.args.conditions.now c.requires.narrow.group two in
+      let there : slice_index c.args.places.now 1 < length c.args.trial.now = c.requires.narrow.within 1 0 (omega arith) in
+      let x : List ℕ = with_pair c.args.trial.now (slice_index c.args.places.now 0) (slice_index c.args.places.now 1) (slice_index c.args.first 0) (slice_index c.args.first 1) in
+      let sets = sets_of_two c.args.arena.now c.args.places.now c.args.conditions.now c.requires.narrow.group two x c.values_at-lower.new.trial y (has c.values_at-lower.result) (has c.values_beside-higher.result)
+      (rw (length-set, length-set) there) (omega (arith, length-set {A = ℕ})) within
+      (at_high c.args.trial.now (slice_index c.args.places.now 0) (slice_index c.args.places.now 1) (slice_index c.args.first 0) (slice_index c.args.first 1) order there ∙ sym (has_at 1 (omega arith)))
+      c.values_at-lower.ensures.values c.values_beside-higher.ensures.values in
+      let test : List ℕ → Bool = holds (trees_of c.args.arena.now c.args.conditions.now) in
+      let low : ℕ = slice_index c.args.places.now 0 in
+      let high : ℕ = slice_index c.args.places.now 1 in
+      two_sets (has c.values_at-lower.result) (has c.values_beside-higher.result) (freed test y low) (freed_beside test (freed test y low) y low high) sets.0 sets.1;
 }
