@@ -9,11 +9,18 @@ use Rattle.crash_cli.specs.declared.answer.Answer.{Answer}
 use Rattle.crash_cli.specs.declared.words.Action.{Action}
 use Rattle.crash_cli.specs.declared.words.Action.TheVariants.{Make, Run, Replay, Check}
 use Rattle.crash_cli.specs.declared.words.Options.{Options}
-use Rattle.crash_cli.specs.Words.{Task}
+use Rattle.crash_cli.specs.Words.{Task, Asked, OnFiles, OnDemo}
+use Rattle.crash_cli.specs.Demo.{IsDemoAnswer, demo_of}
+use Rattle.rv_decode.specs.declared.instr.Instr.{Instr}
+use Rattle.rv_assemble.specs.declared.region.Region.{Region}
+use Rattle.rv_assemble.specs.declared.demo.DemoKind.{DemoKind}
+use Rattle.rv_assemble.specs.Parts.{IsFile}
+use Rattle.rv_assemble.specs.Demo.{demo_code, demo_regions, demo_input}
 use Rattle.crash_cli.specs.Received.{IsReading, IsByReading, replay_answer, check_answer}
 use Rattle.crash_cli.specs.Answers.{read_of, role_of, IsAnswerOf, IsOfSecond, IsOfProgram, IsDone, IsAnswerTo}
 
-module _ (one_report : (a b : Content) → IsReport a → IsReport b → text a ≡ text b → a ≡ b) (one_line : (bytes : List ℕ) (m n : ℕ) → FailsAt m bytes → FailsAt n bytes → m ≡ n) where
+module _ (one_report : (a b : Content) → IsReport a → IsReport b → text a ≡ text b → a ≡ b) (one_line : (bytes : List ℕ) (m n : ℕ) → FailsAt m bytes → FailsAt n bytes → m ≡ n)
+    (one_file : (code : List Instr) (regions : List Region) (a b : List ℕ) → IsFile code regions a → IsFile code regions b → a ≡ b) where
   one_reading : (bytes : List ℕ) (r q : Result Content ℕ) → IsReading bytes r → IsReading bytes q → r ≡ q
   one_reading bytes (Ok a) (Ok b) is_a is_b = ap Ok (one_report a b is_a.report is_b.report (sym is_a.written ∙ is_b.written))
   one_reading bytes (Ok a) (Err n) is_a fails = absurd (fails.no_text a is_a)
@@ -37,6 +44,11 @@ module _ (one_report : (a b : Content) → IsReport a → IsReport b → text a 
   of_program task held (Err refused) a b is_a is_b = is_a ∙ sym is_b
   of_program task held (Ok p) a b is_a is_b = of_second task p (read_of (role_of task.action) (held task.second)) a b is_a is_b
 
-  pub one_answer : (asked : Option Task) (held : Files) (a b : Answer) → IsAnswerTo asked held a → IsAnswerTo asked held b → a ≡ b
+  of_demo : (kind : DemoKind) (size : ℕ) (o : Options) (a b : Answer) → IsDemoAnswer kind size o a → IsDemoAnswer kind size o b → a ≡ b
+  of_demo kind size o a b is_a is_b =
+      is_a.same ∙ ap (λ p. demo_of kind size p o (demo_input kind size)) (one_file (demo_code kind size) (demo_regions size) is_a.program is_b.program is_a.file is_b.file) ∙ sym is_b.same
+
+  pub one_answer : (asked : Option Asked) (held : Files) (a b : Answer) → IsAnswerTo asked held a → IsAnswerTo asked held b → a ≡ b
   one_answer None held a b is_a is_b = is_a ∙ sym is_b
-  one_answer (Some task) held a b is_a is_b = of_program task held (read_of Program (held task.program)) a b is_a is_b
+  one_answer (Some (OnFiles task)) held a b is_a is_b = of_program task held (read_of Program (held task.program)) a b is_a is_b
+  one_answer (Some (OnDemo kind size options)) held a b is_a is_b = of_demo kind size options a b is_a is_b

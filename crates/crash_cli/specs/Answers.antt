@@ -13,10 +13,11 @@ use Rattle.crash_cli.specs.declared.answer.Answer.TheVariants.{Text, Refused}
 use Rattle.crash_cli.specs.declared.words.Action.{Action}
 use Rattle.crash_cli.specs.declared.words.Action.TheVariants.{Make, Run, Replay, Check}
 use Rattle.crash_cli.specs.declared.words.Options.{Options}
-use Rattle.crash_cli.specs.Words.{Task}
+use Rattle.crash_cli.specs.Words.{Task, Asked, OnFiles, OnDemo}
 use Rattle.crash_cli.specs.Outcome.{outcome, transcript_under}
 use Rattle.crash_cli.specs.RunText.{run_text}
 use Rattle.crash_cli.specs.Received.{IsByReading, replay_answer, check_answer}
+use Rattle.crash_cli.specs.Demo.{IsDemoAnswer}
 
 -- ---- files
 
@@ -65,6 +66,7 @@ abbrev pub IsDone : Task → Files → Answer → Type 0
 IsDone task held answer = IsOfProgram task held (read_of Program (held task.program)) answer
 
 -- the answer to words, over the files that are held
-abbrev pub IsAnswerTo : Option Task → Files → Answer → Type 0
+abbrev pub IsAnswerTo : Option Asked → Files → Answer → Type 0
 IsAnswerTo None held answer = answer ≡ Refused Usage
-IsAnswerTo (Some task) held answer = IsDone task held answer
+IsAnswerTo (Some (OnFiles task)) held answer = IsDone task held answer
+IsAnswerTo (Some (OnDemo kind size options)) held answer = IsDemoAnswer kind size options answer

@@ -10,6 +10,10 @@ use Rattle.crash_cli.specs.declared.words.Action.{Action}
 use Rattle.crash_cli.specs.declared.words.Action.TheVariants.{Make, Run, Replay, Check}
 use Rattle.crash_cli.specs.declared.words.Options.{Options}
 use Rattle.crash_cli.specs.declared.words.Task.{Task as RawTask}
+use Rattle.crash_cli.specs.declared.words.Asked.{Asked as RawAsked}
+use Rattle.crash_cli.specs.declared.words.Asked.TheVariants as raw
+use Rattle.rv_assemble.specs.declared.demo.DemoKind.{DemoKind}
+use Rattle.rv_assemble.specs.declared.demo.DemoKind.TheVariants.{Single, Triple}
 
 -- ---- the command
 
@@ -120,17 +124,58 @@ abbrev pub task_with : Texts → Option Action → Option Options → Option Tas
 task_with texts (Some action) (Some options) = Some (record { action = action; program = texts.first; second = texts.second; options = options })
 task_with texts _ _ = None
 
-abbrev pub task_in : Option Texts → Option Task
-task_in None = None
-task_in (Some texts) = task_with texts (action_of texts.action) (options_of texts)
+-- ---- demonstrations
+
+abbrev pub kind_of : List ℕ → Option DemoKind
+kind_of text =
+    if bytes_eq text (codes "single") then Some Single
+    else if bytes_eq text (codes "triple") then Some Triple
+    else None
+
+-- what the words ask for: an action over files, or the summary of a demonstration, by its kind and its number of bytes
+pub data Asked : Type 0 where
+  OnFiles : Task → Asked
+  OnDemo : DemoKind → ℕ → Options → Asked
+
+abbrev pub demo_with : Option DemoKind → Option ℕ → Option Options → Option Asked
+demo_with (Some kind) (Some size) (Some options) = Some (OnDemo kind size options)
+demo_with _ _ _ = None
+
+abbrev pub asked_in : Option Texts → Option Asked
+asked_in None = None
+asked_in (Some texts) =
+    if bytes_eq texts.action (codes "demo") then demo_with (kind_of texts.first) (number_of 3 65536 texts.second) (options_of texts)
+    else option_map OnFiles (task_with texts (action_of texts.action) (options_of texts))
 
 -- what the words ask for
-unfoldable pub task_of : List (List ℕ) → Option Task
-task_of words = task_in (texts_of words)
+unfoldable pub asked_of : List (List ℕ) → Option Asked
+asked_of words = asked_in (texts_of words)
+
+abbrev pub task_in : Option Asked → Option Task
+task_in (Some (OnFiles task)) = Some task
+task_in _ = None
+
+-- the action over files that the words ask for
+abbrev pub task_of : List (List ℕ) → Option Task
+task_of words = task_in (asked_of words)
 
 -- the same of the words as they lie in memory
 abbrev pub task_value : RawTask → Task
 task_value task = record { action = task.action; program = task.program.now; second = task.second.now; options = task.options }
+
+abbrev pub asked_value : RawAsked → Asked
+asked_value (raw.Files task) = OnFiles (task_value task)
+asked_value (raw.Demo kind size options) = OnDemo kind size options
+
+-- the options of what is asked for
+abbrev pub options_asked : RawAsked → Options
+options_asked (raw.Files task) = task.options
+options_asked (raw.Demo kind size options) = options
+
+-- 3 to 65,536 bytes, where a demonstration is asked for
+abbrev pub IsSized : RawAsked → Type 0
+IsSized (raw.Files task) = Unit {0}
+IsSized (raw.Demo kind size options) = (3 ≤ size) × (size ≤ 65536)
 
 -- a report is to be made: the names of its two files, and the options
 pub record MakeWords : Type 0 where

@@ -8,6 +8,7 @@
 
 pub mod answer;
 mod command;
+mod demo;
 pub mod laws;
 mod outcome;
 mod receiver;

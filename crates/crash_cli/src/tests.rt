@@ -1,5 +1,6 @@
 //! Whole calls over files and sinks in memory. The digests are those of `sha256sum`.
 
+mod demo;
 mod order;
 mod receiver;
 mod reports;

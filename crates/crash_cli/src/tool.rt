@@ -7,7 +7,8 @@ ghost use Rattle.report_format.specs.Text.{Content};
 ghost use Rattle.report_format.specs.Reading.{IsTextOf};
 ghost use Rattle.receiver_replay.specs.Right.{IsRight};
 ghost use Rattle.crash_cli.specs.Refusals.{out_of, err_of, IsLineOf, IsGiven};
-ghost use Rattle.crash_cli.specs.Words.{make_of, task_of, task_value, AreWithin};
+ghost use Rattle.crash_cli.specs.Words.{make_of, asked_of, task_of, task_value, AreWithin};
+ghost use Rattle.crash_cli.specs.Demo.{IsDemoAnswer};
 ghost use Rattle.crash_cli.specs.Outcome.{outcome, transcript_under};
 ghost use Rattle.crash_cli.specs.Received.{IsAccepted};
 ghost use Rattle.crash_cli.specs.Answers.{IsAnswerTo, IsDone, IsAnswerOf, read_of, role_of, limit_of};
@@ -17,12 +18,14 @@ ghost use Rattle.crash_cli.specs.Call.{IsReceived};
 
 use crate::answer::{Answer, Refusal, Role};
 use crate::command::WordsError;
+use crate::demo::demo;
 use crate::outcome::outcome;
 use crate::receiver::{check, replay, run};
 use crate::say::say;
-use crate::words::{Action, Options, Task, read_words};
+use crate::words::{Action, Asked, Options, Task, read_words};
 use fault_io::{Bytes, FetchFault, Fetched, Folder, Sink};
 use no_memory::NoMemory;
+use rv_assemble::DemoKind;
 use std::alloc::Global;
 
 /// The most bytes of a file.
@@ -119,22 +122,46 @@ fn answer_task<F: Folder>(alloc: Global, task: &Task, folder: &mut F) -> Answer
     }
 }
 
+/// The answer to a demonstration.
+#[tactic(auto, using(crate::proofs::CallLemmas::of_files))]
+fn answer_demo(alloc: Global, kind: DemoKind, size: u32, options: Options) -> Answer
+    requires least { 3 ≤ size }
+    requires most { size ≤ 65536 }
+    requires options { AreWithin options }
+    ensures told { (IsDemoAnswer kind size options result) ⊎ (result ≡ Answer.Refused Refusal.NoMemory) }
+    ensures no_read_fault { IsReadFault result → ⊥ }
+    ensures no_usage { result ≢ Answer.Refused Refusal.Usage }
+    ensures given { IsAnswer result }
+{
+    match demo(alloc, kind, size, options) {
+        Ok(answer) => answer,
+        Err(_) => Answer::Refused(Refusal::NoMemory),
+    }
+}
+
 /// What to say, from the words and the files.
 fn decide<F: Folder>(alloc: Global, words: &[String], folder: &mut F) -> Answer
     ensures files { F.files folder.new ≡ F.files folder.old }
     ensures counts { F.faults folder.old ≤ F.faults folder.new }
     ensures told { IfSome (F.files folder.old) (λ held.
-        IsRightBut (IsAnswerTo (task_of (map string_bytes words.now)) held) (Rose (F.faults folder.old) (F.faults folder.new)) result) }
+        IsRightBut (IsAnswerTo (asked_of (map string_bytes words.now)) held) (Rose (F.faults folder.old) (F.faults folder.new)) result) }
     ensures received { IfSome (task_of (map string_bytes words.now)) (λ task.
         IfSome (F.files folder.old) (IsReceived task result)) }
     ensures untold { F.files folder.old ≡ None → IsReadFault result → Rose (F.faults folder.old) (F.faults folder.new) }
-    ensures usage { result ≡ Answer.Refused Refusal.Usage → task_of (map string_bytes words.now) ≡ None }
-    ensures words { task_of (map string_bytes words.now) ≡ None →
+    ensures usage { result ≡ Answer.Refused Refusal.Usage → asked_of (map string_bytes words.now) ≡ None }
+    ensures words { asked_of (map string_bytes words.now) ≡ None →
         (result ≡ Answer.Refused Refusal.Usage) ⊎ (result ≡ Answer.Refused Refusal.NoMemory) }
     ensures given { IsAnswer result }
 {
     match read_words(alloc, words) {
-        Ok(task) => answer_task(alloc, &task, folder),
+        Ok(Asked::Files(task)) => answer_task(alloc, &task, folder),
+        Ok(
+            Asked::Demo {
+                kind,
+                size,
+                options,
+            },
+        ) => answer_demo(alloc, kind, size, options),
         Err(WordsError::Usage) => Answer::Refused(Refusal::Usage),
         Err(WordsError::NoMemory) => Answer::Refused(Refusal::NoMemory),
     }
@@ -156,19 +183,19 @@ pub fn run_tool<F: Folder, O: Sink, E: Sink>(
     err: &mut E,
 ) -> u8
     // Each status has its cause.
-    ensures usage { result ≡ 2 → task_of (map string_bytes words.now) ≡ None }
-    ensures words { task_of (map string_bytes words.now) ≡ None → (result ≡ 2) ⊎ (result ≡ 1) }
+    ensures usage { result ≡ 2 → asked_of (map string_bytes words.now) ≡ None }
+    ensures words { asked_of (map string_bytes words.now) ≡ None → (result ≡ 2) ⊎ (result ≡ 1) }
     ensures read { result ≡ 3 → F.files folder.old ≡ None → Rose (F.faults folder.old) (F.faults folder.new) }
     ensures write { result ≡ 4 → HasFault (change O.holds O.faults out.old out.new) }
     ensures told { IfSome (F.files folder.old) (λ held.
-        IsStatusBut (IsAnswerTo (task_of (map string_bytes words.now)) held) (Rose (F.faults folder.old) (F.faults folder.new)) (HasFault (change O.holds O.faults out.old out.new)) result) }
+        IsStatusBut (IsAnswerTo (asked_of (map string_bytes words.now)) held) (Rose (F.faults folder.old) (F.faults folder.new)) (HasFault (change O.holds O.faults out.old out.new)) result) }
 
     // What is on out.
     ensures text { IfSome (F.files folder.old) (λ held. result ≡ 0 →
-        OfRight (IsAnswerTo (task_of (map string_bytes words.now)) held)
+        OfRight (IsAnswerTo (asked_of (map string_bytes words.now)) held)
         (λ answer. Takes (change O.holds O.faults out.old out.new) (out_of answer))) }
     ensures part { IfSome (F.files folder.old) (λ held. result ≡ 4 →
-        OfRight (IsAnswerTo (task_of (map string_bytes words.now)) held)
+        OfRight (IsAnswerTo (asked_of (map string_bytes words.now)) held)
         (λ answer. TakesPrefix (change O.holds O.faults out.old out.new) (out_of answer))) }
     ensures nothing { result ≢ 0 → result ≢ 4 → TakesNothing (change O.holds O.faults out.old out.new) }
 
@@ -178,14 +205,14 @@ pub fn run_tool<F: Folder, O: Sink, E: Sink>(
         × TakesLine (change E.holds E.faults err.old err.new) line }
     ensures line_told { IfSome (F.files folder.old) (λ held.
         result ≢ 0 → result ≢ 1 → result ≢ 4 → (result ≡ 3 → NoFault (F.faults folder.old) (F.faults folder.new)) →
-        OfRight (IsAnswerTo (task_of (map string_bytes words.now)) held)
+        OfRight (IsAnswerTo (asked_of (map string_bytes words.now)) held)
         (λ answer. TakesLine (change E.holds E.faults err.old err.new) (err_of answer))) }
 
     // Without want of memory and failing reads or writes: all of it is what words and files fix.
     ensures complete { IfSome (F.files folder.old) (λ held.
         result ≢ 1 → NoFault (F.faults folder.old) (F.faults folder.new) →
         HasNoFault (change O.holds O.faults out.old out.new) → HasNoFault (change E.holds E.faults err.old err.new) →
-        OfRight (IsAnswerTo (task_of (map string_bytes words.now)) held) (λ answer.
+        OfRight (IsAnswerTo (asked_of (map string_bytes words.now)) held) (λ answer.
         Gives answer (change O.holds O.faults out.old out.new) (change E.holds E.faults err.old err.new) result)) }
 
     // The folder keeps its files, and no count of faults falls.

@@ -2,10 +2,12 @@
 
 ghost use Rattle.std.specs.Prelude.{◌≡◌, ◌≤◌, ◌⊎◌, map, Some, None, IfSome, IfOk, IfErr, option_map};
 ghost use Rattle.std.specs.String.{string_bytes};
-ghost use Rattle.crash_cli.specs.Words.{raw_texts, number_or, options_of, action_of, task_in, task_of, task_value, AreWithin};
+ghost use Rattle.crash_cli.specs.Words.{raw_texts, number_or, options_of, action_of, kind_of, asked_in, asked_of, asked_value, options_asked};
+ghost use Rattle.crash_cli.specs.Words.{AreWithin, IsSized};
 
 use crate::command::{Raw, WordsError, read_texts};
 use decimal_text::read_decimal;
+use rv_assemble::DemoKind;
 use std::alloc::Global;
 
 /// What is to be done.
@@ -41,6 +43,31 @@ pub struct Task<'a> {
     /// The name of the input's file, or of the report's.
     pub second: &'a str,
     pub options: Options,
+}
+
+/// What the words ask for.
+#[derive(Drop)]
+pub enum Asked<'a> {
+    /// An action over two files.
+    Files(Task<'a>),
+    /// The summary of the report of a demonstration.
+    Demo {
+        kind: DemoKind,
+        /// The number of bytes of the input, 3 to 65,536.
+        size: u32,
+        options: Options,
+    },
+}
+
+/// The demonstration that a text names.
+fn kind_of(text: &str) -> Option<DemoKind>
+    ensures { result ≡ kind_of text.now }
+{
+    match text {
+        "single" => Some(DemoKind::Single),
+        "triple" => Some(DemoKind::Triple),
+        _ => None,
+    }
 }
 
 /// The action that a text names.
@@ -87,30 +114,41 @@ fn options_of(raw: &Raw<'_>) -> Option<Options>
 }
 
 /// What the texts ask for.
-fn task_of<'a>(raw: &Raw<'a>) -> Option<Task<'a>>
-    ensures task { option_map task_value result ≡ task_in (Some (raw_texts raw.now)) }
-    ensures within { IfSome result (λ task. AreWithin task.options) }
+fn asked_of<'a>(raw: &Raw<'a>) -> Option<Asked<'a>>
+    ensures asked { option_map asked_value result ≡ asked_in (Some (raw_texts raw.now)) }
+    ensures within { IfSome result (λ asked. AreWithin (options_asked asked)) }
+    ensures sized { IfSome result IsSized }
 {
     let options = options_of(raw)?;
+    if raw.action == "demo" {
+        let kind = kind_of(raw.first)?;
+        let size = number_or(Some(raw.second), 3, 3, 65_536)?;
+        return Some(Asked::Demo {
+            kind,
+            size: size as u32,
+            options,
+        });
+    }
     let action = action_of(raw.action)?;
-    Some(Task {
+    Some(Asked::Files(Task {
         action,
         program: raw.first,
         second: raw.second,
         options,
-    })
+    }))
 }
 
-/// What the words ask for: `ACTION PROGRAM SECOND [--seed N] [--steps N] [--conflicts N]`.
-pub fn read_words<'a>(alloc: Global, words: &'a [String]) -> Result<Task<'a>, WordsError>
-    ensures read { IfOk result (λ task. task_of (map string_bytes words.entry.now) ≡ Some (task_value task)) }
+/// What the words ask for: `ACTION PROGRAM SECOND` or `demo KIND N`, and the options.
+pub fn read_words<'a>(alloc: Global, words: &'a [String]) -> Result<Asked<'a>, WordsError>
+    ensures read { IfOk result (λ asked. asked_of (map string_bytes words.entry.now) ≡ Some (asked_value asked)) }
     ensures refused { IfErr result (λ e. (e ≡ WordsError.NoMemory)
-        ⊎ ((e ≡ WordsError.Usage) × (task_of (map string_bytes words.entry.now) ≡ None))) }
-    ensures within { IfOk result (λ task. AreWithin task.options) }
+        ⊎ ((e ≡ WordsError.Usage) × (asked_of (map string_bytes words.entry.now) ≡ None))) }
+    ensures within { IfOk result (λ asked. AreWithin (options_asked asked)) }
+    ensures sized { IfOk result IsSized }
 {
     let raw = read_texts(alloc, words)?;
-    match task_of(&raw) {
-        Some(task) => Ok(task),
+    match asked_of(&raw) {
+        Some(asked) => Ok(asked),
         None => Err(WordsError::Usage),
     }
 }

@@ -2,29 +2,52 @@
 
 use super::{call, folder, is_said, long_program, program};
 use crate::command::WordsError;
-use crate::words::{Action, Options, read_words};
+use crate::words::{Action, Asked, Options, read_words};
+use rv_assemble::DemoKind;
 use std::alloc::{AllocError, Global};
 use std::test::Fail;
 use test_programs::words::{BRANCH_TO_THE_NEXT, EBREAK};
 
-/// What the words of a line, parted by spaces, ask for: the action, the two names and the options.
-fn asked(
-    alloc: Global,
-    line: &str,
-) -> Result<Option<(Action, String, String, Options)>, AllocError> {
+/// The words of a line, parted by spaces.
+fn words_of(alloc: Global, line: &str) -> Result<Vec<String>, AllocError> {
     let mut words = Vec::new(alloc);
     for word in line.split(' ') {
         let word = if word == "''" { "" } else { word };
         words.push(word.to_string(alloc)?)?;
     }
+    Ok(words)
+}
+
+/// The demonstration that the words of a line ask for.
+fn demo_asked(alloc: Global, line: &str) -> Result<Option<(DemoKind, u32, Options)>, AllocError> {
+    let words = words_of(alloc, line)?;
     match read_words(alloc, words.as_slice()) {
-        Ok(task) => Ok(Some((
+        Ok(
+            Asked::Demo {
+                kind,
+                size,
+                options,
+            },
+        ) => Ok(Some((kind, size, options))),
+        Ok(Asked::Files(_)) | Err(WordsError::Usage) => Ok(None),
+        Err(WordsError::NoMemory) => Err(AllocError),
+    }
+}
+
+/// What the words of a line ask for: the action over files, the two names and the options.
+fn asked(
+    alloc: Global,
+    line: &str,
+) -> Result<Option<(Action, String, String, Options)>, AllocError> {
+    let words = words_of(alloc, line)?;
+    match read_words(alloc, words.as_slice()) {
+        Ok(Asked::Files(task)) => Ok(Some((
             task.action,
             task.program.to_string(alloc)?,
             task.second.to_string(alloc)?,
             task.options,
         ))),
-        Err(WordsError::Usage) => Ok(None),
+        Ok(Asked::Demo { .. }) | Err(WordsError::Usage) => Ok(None),
         Err(WordsError::NoMemory) => Err(AllocError),
     }
 }
@@ -74,6 +97,17 @@ fn words_that_are_a_command(rt: HostRuntime) -> Result<(), Fail> {
         assert_eq!(rt; task.3.steps, steps, "{line}");
         assert_eq!(rt; task.3.conflicts, conflicts, "{line}");
     }
+    let demos = [
+        ("demo single 3 --seed 4", DemoKind::Single, 3, 4),
+        ("--seed=5 demo triple 65536", DemoKind::Triple, 65_536, 5),
+    ];
+    for (line, kind, size, seed) in demos {
+        let Some(demo) = demo_asked(alloc, line)? else {
+            assert!(rt; false, "{line}");
+            return Ok(());
+        };
+        assert_eq!(rt; (demo.0, demo.1, demo.2.seed), (kind, size, seed), "{line}");
+    }
     let actions = [
         ("run p x --seed 3", Action::Run),
         ("replay p x --steps 5", Action::Replay),
@@ -95,7 +129,13 @@ fn words_that_are_no_command(rt: HostRuntime) -> Result<(), Fail> {
         "make",
         "make p",
         "make p x y",
-        "demo single 3",
+        "demo single 2",
+        "demo triple 65537",
+        "demo double 3",
+        "demo single 03",
+        "demo single",
+        "demo triple 3 4",
+        "demo triple 3 --steps 0",
         "help p x",
         "Make p x",
         "run p",
@@ -122,6 +162,7 @@ fn words_that_are_no_command(rt: HostRuntime) -> Result<(), Fail> {
     ];
     for line in lines {
         assert!(rt; asked(rt.alloc(), line)?.is_none(), "{line}");
+        assert!(rt; demo_asked(rt.alloc(), line)?.is_none(), "{line}");
     }
     Ok(())
 }
