@@ -2,7 +2,8 @@
 
 use super::reports::OVERFLOW_REPORT;
 use super::{call, folder, is_said, long_program, program};
-use std::alloc::Global;
+use std::alloc::{AllocError, Global};
+use std::process::Abort;
 use std::test::Fail;
 use test_programs::words::{
     BELOW_TEN, COMPARE, COMPARE_WORD, DIVIDE, EBREAK, EQUAL_PAIR, JOINED_TRIPLE, JUMP_TO_TWO,
@@ -124,151 +125,165 @@ const LINES: [&str; 10] = [
     "end",
 ];
 
+/// The lines of the report of an overflown buffer.
+const OVERFLOW_LINES: [&str; 14] = [
+    "crash-report 1",
+    "program 120 08e58681d1203ce2da74c8120f82c3d6e8c74f3d8be888ce7d6cb71a61bc93e6",
+    "trap fetch 61616160 61616160",
+    "steps 10",
+    "seed 0",
+    "input 64",
+    "data 0000000000000000000000000000000000000000000000000000000060616161",
+    "data 0000000000000000000000000000000000000000000000000000000000000000",
+    "set 28 2 0000000000000000000000000300000000000000000000000000000000000000",
+    "set 29 1 0000000000000000000000000200000000000000000000000000000000000000",
+    "set 30 1 0000000000000000000000000200000000000000000000000000000000000000",
+    "set 31 1 0000000000000000000000000200000000000000000000000000000000000000",
+    "revealed 31 of 512",
+    "end",
+];
+
 /// The text of the lines, with those of the changes in the place of theirs, which are counted from 1.
-fn text_of(alloc: Global, changes: &[(usize, &str)]) -> Result<Vec<u8>, Fail> {
+fn text_of(
+    alloc: Global,
+    lines: &[&str],
+    changes: &[(usize, &str)],
+) -> Result<Vec<u8>, AllocError> {
     let mut text = Vec::new(alloc);
-    for (index, line) in LINES.iter().enumerate() {
-        let change = changes.iter().find(|change| change.0 == index + 1);
-        let line = change.map_or(*line, |change| change.1);
+    for (index, line) in lines.iter().enumerate() {
+        let mut line = *line;
+        for (number, other) in changes {
+            if *number == index.wrapping_add(1) {
+                line = other;
+            }
+        }
         text.extend_from_slice(line.as_bytes())?;
         text.push(b'\n')?;
     }
     Ok(text)
 }
 
+/// Asserts what `check` and `replay` say of a report on err. Nothing there is status 0.
+fn expect(
+    rt: &impl Abort,
+    alloc: Global,
+    program_words: &[u32],
+    report: Vec<u8>,
+    checked: (u8, &str),
+    replayed: (u8, &str),
+) -> Result<(), Fail> {
+    let mut files = folder(alloc, program(alloc, program_words)?, report)?;
+    let check = call(alloc, &CHECK, &mut files, 4096, 4096)?;
+    assert_eq!(rt; check.status, checked.0);
+    assert!(rt;
+        check.err.as_slice() == checked.1.as_bytes(),
+        "{}",
+        checked.1
+    );
+    let replay = call(alloc, &REPLAY, &mut files, 4096, 4096)?;
+    assert_eq!(rt; replay.status, replayed.0);
+    assert!(rt;
+        replay.err.as_slice() == replayed.1.as_bytes(),
+        "{}",
+        replayed.1
+    );
+    Ok(())
+}
+
 /// Each line is changed in turn, and what `check` and `replay` answer.
 #[test]
 fn each_line_of_a_report(rt: HostRuntime) -> Result<(), Fail> {
     let alloc = rt.alloc();
-    let cases: [(&[(usize, &str)], u8, &str, u8, &str); 15] = [
-        (&[], 0, "", 0, ""),
+    let wrong = (11, "wrong program\n");
+    let differs_3 = (12, "differs: line 3\n");
+    let differs_4 = (12, "differs: line 4\n");
+    let differs_7 = (12, "differs: line 7\n");
+    let cases = [
         (
-            &[(1, "crash-report 2")],
+            1,
+            "crash-report 2",
+            (10, "not a report: line 1\n"),
+            (10, "not a report: line 1\n"),
+        ),
+        (
+            2,
+            "program 123 097844f4fbc397e36a433f8cbb2da14c7ba64f39bd6dbc5dc903ccb8446c2ecb",
+            wrong,
+            wrong,
+        ),
+        (
+            2,
+            "program 124 197844f4fbc397e36a433f8cbb2da14c7ba64f39bd6dbc5dc903ccb8446c2ecb",
+            wrong,
+            wrong,
+        ),
+        (3, "trap breakpoint 00010020 00000000", differs_3, differs_3),
+        (3, "trap load 00010024 00000000", differs_3, differs_3),
+        (3, "trap breakpoint 00010024 00000001", differs_3, differs_3),
+        (4, "steps 9", differs_4, differs_4),
+        (4, "steps 7", differs_4, differs_3),
+        (5, "seed 1", differs_7, (0, "")),
+        (
+            6,
+            "input 3",
+            (10, "not a report: line 7\n"),
+            (10, "not a report: line 7\n"),
+        ),
+        (7, "data 41000100", differs_7, (0, "")),
+        (
+            8,
+            "set 0 1 02",
+            (10, "not a report: line 8\n"),
+            (10, "not a report: line 8\n"),
+        ),
+        (
+            9,
+            "revealed 7 of 32",
+            (10, "not a report: line 9\n"),
+            (10, "not a report: line 9\n"),
+        ),
+        (
             10,
-            "not a report: line 1",
-            10,
-            "not a report: line 1",
-        ),
-        (
-            &[(
-                2,
-                "program 123 097844f4fbc397e36a433f8cbb2da14c7ba64f39bd6dbc5dc903ccb8446c2ecb",
-            )],
-            11,
-            "wrong program",
-            11,
-            "wrong program",
-        ),
-        (
-            &[(
-                2,
-                "program 124 197844f4fbc397e36a433f8cbb2da14c7ba64f39bd6dbc5dc903ccb8446c2ecb",
-            )],
-            11,
-            "wrong program",
-            11,
-            "wrong program",
-        ),
-        (
-            &[(3, "trap breakpoint 00010020 00000000")],
-            12,
-            "differs: line 3",
-            12,
-            "differs: line 3",
-        ),
-        (
-            &[(3, "trap load 00010024 00000000")],
-            12,
-            "differs: line 3",
-            12,
-            "differs: line 3",
-        ),
-        (
-            &[(3, "trap breakpoint 00010024 00000001")],
-            12,
-            "differs: line 3",
-            12,
-            "differs: line 3",
-        ),
-        (
-            &[(4, "steps 9")],
-            12,
-            "differs: line 4",
-            12,
-            "differs: line 4",
-        ),
-        (
-            &[(4, "steps 7")],
-            12,
-            "differs: line 4",
-            12,
-            "differs: line 3",
-        ),
-        (&[(5, "seed 1")], 12, "differs: line 7", 0, ""),
-        (
-            &[(6, "input 3")],
-            10,
-            "not a report: line 7",
-            10,
-            "not a report: line 7",
-        ),
-        (&[(7, "data 41000100")], 12, "differs: line 7", 0, ""),
-        (
-            &[
-                (
-                    8,
-                    "set 0 2 0000000000000000030000000000000000000000000000000000000000000000",
-                ),
-                (9, "revealed 7 of 32"),
-            ],
-            12,
-            "differs: line 8",
-            0,
-            "",
-        ),
-        (
-            &[(9, "revealed 7 of 32")],
-            10,
-            "not a report: line 9",
-            10,
-            "not a report: line 9",
-        ),
-        (
-            &[(10, "ends")],
-            10,
-            "not a report: line 10",
-            10,
-            "not a report: line 10",
+            "ends",
+            (10, "not a report: line 10\n"),
+            (10, "not a report: line 10\n"),
         ),
     ];
-    let run = b"trap breakpoint 00010024 00000000
-steps 8
-covered 8
-last 00010000 00010004 00010008 0001000c 00010010 00010014 00010018 00010024
-";
-    for (changes, checked, check_line, replayed, replay_line) in cases {
-        let text = text_of(alloc, changes)?;
-        let mut files = folder(alloc, program(alloc, &COMPARE)?, text)?;
-        let check = call(alloc, &CHECK, &mut files, 4096, 4096)?;
-        assert_eq!(rt; check.status, checked, "{check_line}");
-        let err = check.err.as_slice();
-        assert!(rt;
-            err == check_line.as_bytes() || err.strip_suffix(b"\n") == Some(check_line.as_bytes()),
-            "{check_line}"
-        );
-        let replay = call(alloc, &REPLAY, &mut files, 4096, 4096)?;
-        assert_eq!(rt; replay.status, replayed, "{replay_line}");
-        let err = replay.err.as_slice();
-        assert!(rt;
-            err == replay_line.as_bytes()
-                || err.strip_suffix(b"\n") == Some(replay_line.as_bytes()),
-            "{replay_line}"
-        );
-        if replayed == 0 {
-            assert!(rt; replay.out.as_slice() == run.as_slice());
-        }
+    for (number, line, checked, replayed) in cases {
+        let text = text_of(alloc, &LINES, &[(number, line)])?;
+        expect(&rt, alloc, &COMPARE, text, checked, replayed)?;
     }
-    Ok(())
+    let set = "set 0 2 0000000000000000030000000000000000000000000000000000000000000000";
+    let text = text_of(alloc, &LINES, &[(8, set), (9, "revealed 7 of 32")])?;
+    expect(
+        &rt,
+        alloc,
+        &COMPARE,
+        text,
+        (12, "differs: line 8\n"),
+        (0, ""),
+    )?;
+    let text = text_of(alloc, &LINES, &[])?;
+    expect(&rt, alloc, &COMPARE, text, (0, ""), (0, ""))
+}
+
+/// The report of an overflown buffer with another set, and with one step more.
+#[test]
+fn two_lines_of_another_report(rt: HostRuntime) -> Result<(), Fail> {
+    let alloc = rt.alloc();
+    let set = "set 28 3 0000000000000000000000000700000000000000000000000000000000000000";
+    let text = text_of(alloc, &OVERFLOW_LINES, &[(9, set)])?;
+    expect(
+        &rt,
+        alloc,
+        &OVERFLOW,
+        text,
+        (12, "differs: line 9\n"),
+        (0, ""),
+    )?;
+    let text = text_of(alloc, &OVERFLOW_LINES, &[(4, "steps 11")])?;
+    let differs = (12, "differs: line 4\n");
+    expect(&rt, alloc, &OVERFLOW, text, differs, differs)
 }
 
 /// A report is checked under its own seed and the limits of the words.
