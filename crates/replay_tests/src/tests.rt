@@ -217,8 +217,9 @@ fn a_word_has_read_and_known_bytes(rt: HostRuntime) -> Result<(), Fail> {
 fn bytes_that_the_break_moves_past_are_known(rt: HostRuntime) -> Result<(), Fail> {
     let mut arena = Arena::new(rt.alloc())?;
     let found = conditions_of(rt.alloc(), &mut arena, &MOVED_BREAK, &[0x61])?;
-    let is_zero = input_is(&mut arena, 0, 0)?;
+    let read = arena.input(0)?;
     let zero = arena.constant(0)?;
+    let is_zero = arena.intern(Op::Eq, read, zero)?;
     let wanted = [arena.intern(Op::Eq, is_zero, zero)?];
     assert_eq!(rt; found.as_slice(), wanted.as_slice());
     Ok(())
