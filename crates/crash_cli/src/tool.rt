@@ -188,7 +188,9 @@ pub fn run_tool<F: Folder, O: Sink, E: Sink>(
     ensures read { result ≡ 3 → F.files folder.old ≡ None → Rose (F.faults folder.old) (F.faults folder.new) }
     ensures write { result ≡ 4 → HasFault (change O.holds O.faults out.old out.new) }
     ensures told { IfSome (F.files folder.old) (λ held.
-        IsStatusBut (IsAnswerTo (asked_of (map string_bytes words.now)) held) (Rose (F.faults folder.old) (F.faults folder.new)) (HasFault (change O.holds O.faults out.old out.new)) result) }
+        IsStatusBut (IsAnswerTo (asked_of (map string_bytes words.now)) held)
+        (Rose (F.faults folder.old) (F.faults folder.new))
+        (HasFault (change O.holds O.faults out.old out.new)) result) }
 
     // What is on out.
     ensures text { IfSome (F.files folder.old) (λ held. result ≡ 0 →

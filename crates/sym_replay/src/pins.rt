@@ -155,8 +155,10 @@ fn add_comparison(
     requires first { IsValueIn arena.old a.now }
     requires second { IsValueIn arena.old b.now }
     requires comparison { TakesByteNumber op (value_tree arena.old b.now) }
-    ensures trees { OnOk result (Adds arena.old conditions.old (if holds then forms.succeeds (norm op (value_tree arena.old a.now)
-        (value_tree arena.old b.now)) else forms.fails norm (norm op (value_tree arena.old a.now) (value_tree arena.old b.now))) arena.new conditions.new) }
+    ensures trees { OnOk result (Adds arena.old conditions.old
+        (if holds then forms.succeeds (norm op (value_tree arena.old a.now) (value_tree arena.old b.now))
+        else forms.fails norm (norm op (value_tree arena.old a.now) (value_tree arena.old b.now)))
+        arena.new conditions.new) }
     ensures listed { Belong arena.new conditions.new }
     ensures keeps { Extends arena.old arena.new }
 {
