@@ -70,3 +70,18 @@ abbrev pub IsAnswerTo : Option Asked → Files → Answer → Type 0
 IsAnswerTo None held answer = answer ≡ Refused Usage
 IsAnswerTo (Some (OnFiles task)) held answer = IsDone task held answer
 IsAnswerTo (Some (OnDemo kind size options)) held answer = IsDemoAnswer kind size options answer
+
+-- no file is held
+abbrev pub no_files : Files
+no_files name = None
+
+-- whether these words are a command that reads files
+abbrev pub ReadsFiles : Option Asked → Type 0
+ReadsFiles (Some (OnFiles task)) = Unit {0}
+ReadsFiles _ = ⊥
+
+-- the files on which the answer to words rests, where they are told: a demonstration reads none, nor do words that are no command
+abbrev pub files_for : Option Asked → Option Files → Option Files
+files_for (Some (OnFiles task)) files = files
+files_for (Some (OnDemo kind size options)) files = Some no_files
+files_for None files = Some no_files

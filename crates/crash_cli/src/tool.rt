@@ -11,7 +11,7 @@ ghost use Rattle.crash_cli.specs.Words.{make_of, asked_of, task_of, task_value, 
 ghost use Rattle.crash_cli.specs.Demo.{IsDemoAnswer};
 ghost use Rattle.crash_cli.specs.Outcome.{outcome, transcript_under};
 ghost use Rattle.crash_cli.specs.Received.{IsAccepted};
-ghost use Rattle.crash_cli.specs.Answers.{IsAnswerTo, IsDone, IsAnswerOf, read_of, role_of, limit_of};
+ghost use Rattle.crash_cli.specs.Answers.{IsAnswerTo, ReadsFiles, files_for, IsDone, IsAnswerOf, read_of, role_of, limit_of};
 ghost use Rattle.crash_cli.specs.Call.{change, Gives, TakesLine, TakesNothing, Takes, TakesPrefix, HasFault, HasNoFault};
 ghost use Rattle.crash_cli.specs.Call.{OfRight, IsReadFault, IsRightBut, IsReadBut, IsCannotRead, IsStatusBut, IsAnswer, IsOfFiles};
 ghost use Rattle.crash_cli.specs.Call.{IsReceived};
@@ -143,11 +143,12 @@ fn answer_demo(alloc: Global, kind: DemoKind, size: u32, options: Options) -> An
 fn decide<F: Folder>(alloc: Global, words: &[String], folder: &mut F) -> Answer
     ensures files { F.files folder.new ≡ F.files folder.old }
     ensures counts { F.faults folder.old ≤ F.faults folder.new }
-    ensures told { IfSome (F.files folder.old) (λ held.
+    ensures told { IfSome (files_for (asked_of (map string_bytes words.now)) (F.files folder.old)) (λ held.
         IsRightBut (IsAnswerTo (asked_of (map string_bytes words.now)) held) (Rose (F.faults folder.old) (F.faults folder.new)) result) }
     ensures received { IfSome (task_of (map string_bytes words.now)) (λ task.
         IfSome (F.files folder.old) (IsReceived task result)) }
     ensures untold { F.files folder.old ≡ None → IsReadFault result → Rose (F.faults folder.old) (F.faults folder.new) }
+    ensures reads { IsReadFault result → ReadsFiles (asked_of (map string_bytes words.now)) }
     ensures usage { result ≡ Answer.Refused Refusal.Usage → asked_of (map string_bytes words.now) ≡ None }
     ensures words { asked_of (map string_bytes words.now) ≡ None →
         (result ≡ Answer.Refused Refusal.Usage) ⊎ (result ≡ Answer.Refused Refusal.NoMemory) }
@@ -186,17 +187,18 @@ pub fn run_tool<F: Folder, O: Sink, E: Sink>(
     ensures usage { result ≡ 2 → asked_of (map string_bytes words.now) ≡ None }
     ensures words { asked_of (map string_bytes words.now) ≡ None → (result ≡ 2) ⊎ (result ≡ 1) }
     ensures read { result ≡ 3 → F.files folder.old ≡ None → Rose (F.faults folder.old) (F.faults folder.new) }
+    ensures reads { result ≡ 3 → ReadsFiles (asked_of (map string_bytes words.now)) }
     ensures write { result ≡ 4 → HasFault (change O.holds O.faults out.old out.new) }
-    ensures told { IfSome (F.files folder.old) (λ held.
+    ensures told { IfSome (files_for (asked_of (map string_bytes words.now)) (F.files folder.old)) (λ held.
         IsStatusBut (IsAnswerTo (asked_of (map string_bytes words.now)) held)
         (Rose (F.faults folder.old) (F.faults folder.new))
         (HasFault (change O.holds O.faults out.old out.new)) result) }
 
     // What is on out.
-    ensures text { IfSome (F.files folder.old) (λ held. result ≡ 0 →
+    ensures text { IfSome (files_for (asked_of (map string_bytes words.now)) (F.files folder.old)) (λ held. result ≡ 0 →
         OfRight (IsAnswerTo (asked_of (map string_bytes words.now)) held)
         (λ answer. Takes (change O.holds O.faults out.old out.new) (out_of answer))) }
-    ensures part { IfSome (F.files folder.old) (λ held. result ≡ 4 →
+    ensures part { IfSome (files_for (asked_of (map string_bytes words.now)) (F.files folder.old)) (λ held. result ≡ 4 →
         OfRight (IsAnswerTo (asked_of (map string_bytes words.now)) held)
         (λ answer. TakesPrefix (change O.holds O.faults out.old out.new) (out_of answer))) }
     ensures nothing { result ≢ 0 → result ≢ 4 → TakesNothing (change O.holds O.faults out.old out.new) }
@@ -205,13 +207,13 @@ pub fn run_tool<F: Folder, O: Sink, E: Sink>(
     ensures quiet { result ≡ 0 → TakesNothing (change E.holds E.faults err.old err.new) }
     ensures line { result ≢ 0 → (line : List ℕ) × IsLineOf result line
         × TakesLine (change E.holds E.faults err.old err.new) line }
-    ensures line_told { IfSome (F.files folder.old) (λ held.
+    ensures line_told { IfSome (files_for (asked_of (map string_bytes words.now)) (F.files folder.old)) (λ held.
         result ≢ 0 → result ≢ 1 → result ≢ 4 → (result ≡ 3 → NoFault (F.faults folder.old) (F.faults folder.new)) →
         OfRight (IsAnswerTo (asked_of (map string_bytes words.now)) held)
         (λ answer. TakesLine (change E.holds E.faults err.old err.new) (err_of answer))) }
 
     // Without want of memory and failing reads or writes: all of it is what words and files fix.
-    ensures complete { IfSome (F.files folder.old) (λ held.
+    ensures complete { IfSome (files_for (asked_of (map string_bytes words.now)) (F.files folder.old)) (λ held.
         result ≢ 1 → NoFault (F.faults folder.old) (F.faults folder.new) →
         HasNoFault (change O.holds O.faults out.old out.new) → HasNoFault (change E.holds E.faults err.old err.new) →
         OfRight (IsAnswerTo (asked_of (map string_bytes words.now)) held) (λ answer.
