@@ -1,3 +1,5 @@
 pub mod TriedLemmas
 pub mod ValueLemmas
 pub mod GroupLemmas
+pub mod LaneLemmas
+pub mod TestLemmas

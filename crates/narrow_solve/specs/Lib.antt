@@ -1,2 +1,5 @@
 pub mod Narrow
 pub mod Tried
+pub mod Lanes
+pub mod Table
+pub mod Eight

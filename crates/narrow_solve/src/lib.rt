@@ -3,6 +3,10 @@
 //! the caller's bytes.
 #![tactic(auto)]
 
+mod lanes;
+mod one_place;
+mod pairs;
+mod table;
 mod trial;
 
 ghost use Rattle.std.specs.Prelude.{◌≡◌, ◌<◌, ℕ, List, length, map, take, slice_index, All};
@@ -15,8 +19,9 @@ ghost use Rattle.narrow_solve.specs.Narrow.{IsNarrow, AreNarrowSets};
 
 use byte_sets::ByteSet;
 use group_model::Group;
+use one_place::{first_at, values_at};
+use pairs::{first_pair, values_beside};
 use term_arena::{Arena, Scratch, Term};
-use trial::{first_at, first_pair, values_at, values_beside};
 
 /// The first bytes for the places of a group, given as slices.
 fn first_for(

@@ -2,7 +2,7 @@ use Rattle.std.proofs.Common.{rules, sym, ◌∙◌}
 use Rattle.term_model.specs.Conditions.{holds}
 use Rattle.term_arena.specs.Trees.{trees_of}
 use Rattle.narrow_solve.proofs.TriedLemmas.{tried_more, none_tried}
-use Rattle.narrow_solve.proofs.trial.first_at.Goals as goal
+use Rattle.narrow_solve.proofs.trial.first_tried.Goals as goal
 
 pub loop-turn-init : goal.loop-turn-init
 loop-turn-init c = record {

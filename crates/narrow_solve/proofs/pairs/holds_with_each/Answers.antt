@@ -4,8 +4,8 @@ use Rattle.term_model.specs.Conditions.{holds}
 use Rattle.term_arena.specs.Trees.{trees_of}
 use Rattle.byte_sets.specs.ByteSet.{has}
 use Rattle.narrow_solve.proofs.ValueLemmas.{HaveHeld, held_more, held_same, each_held, one_failed}
-use Rattle.narrow_solve.proofs.trial.holds_with_each.Goals as goal
-use Rattle.narrow_solve.proofs.trial.holds_with_each.Goals.{then-contains+else-not-check_model, else-contains}
+use Rattle.narrow_solve.proofs.pairs.holds_with_each.Goals as goal
+use Rattle.narrow_solve.proofs.pairs.holds_with_each.Goals.{then-contains+else-not-check_model, else-contains}
 
 pub returns-then-not-check_model-clause-each : goal.returns-then-not-check_model-clause-each
 returns-then-not-check_model-clause-each c =

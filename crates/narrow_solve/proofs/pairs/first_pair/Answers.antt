@@ -3,7 +3,7 @@ use Rattle.std.specs.Prelude.{slice_index}
 use Rattle.term_model.specs.Conditions.{holds}
 use Rattle.term_arena.specs.Trees.{trees_of}
 use Rattle.narrow_solve.proofs.TriedLemmas.{pairs_more, found_pair}
-use Rattle.narrow_solve.proofs.trial.first_pair.Goals as goal
+use Rattle.narrow_solve.proofs.pairs.first_pair.Goals as goal
 
 pub returns-in-Some-clause-first : goal.returns-in-Some-clause-first
 returns-in-Some-clause-first c =

@@ -3,8 +3,8 @@ use Rattle.term_model.specs.Conditions.{holds}
 use Rattle.term_arena.specs.Trees.{trees_of}
 use Rattle.byte_sets.specs.ByteSet.{has}
 use Rattle.narrow_solve.proofs.ValueLemmas.{beside_more}
-use Rattle.narrow_solve.proofs.trial.values_beside.Goals as goal
-use Rattle.narrow_solve.proofs.trial.values_beside.Goals.{then-holds_with_each, else-holds_with_each}
+use Rattle.narrow_solve.proofs.pairs.values_beside.Goals as goal
+use Rattle.narrow_solve.proofs.pairs.values_beside.Goals.{then-holds_with_each, else-holds_with_each}
 
 pub loop-turn-preserved : goal.loop-turn-preserved
 loop-turn-preserved c =
