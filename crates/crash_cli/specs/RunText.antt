@@ -30,5 +30,10 @@ last_line events = codes "last" ++ spaced (last_sixteen (counters events))
 abbrev pub run_lines : Transcript → List (List ℕ)
 run_lines t = end_line t.end ∷ steps_line (length t.events) ∷ covered_line t.events ∷ last_line t.events ∷ []
 
+-- the text by what two watches tell: the end, the number of steps, the number of program counters and the last of them
+abbrev pub seen_text : End → ℕ → ℕ → List ℕ → List ℕ
+seen_text end steps covered last =
+    joined (end_line end ∷ steps_line steps ∷ (codes "covered " ++ decimal covered) ∷ (codes "last" ++ spaced last) ∷ [])
+
 unfoldable pub run_text : Transcript → List ℕ
 run_text t = joined (run_lines t)

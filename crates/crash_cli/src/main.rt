@@ -17,6 +17,7 @@ mod say;
 #[cfg(test)]
 mod tests;
 pub mod tool;
+mod watched_run;
 pub mod words;
 
 ghost use Rattle.std.specs.Prelude.{◌≡◌, ◌↔◌, ◌⊎◌};

@@ -1,2 +1,4 @@
 pub mod CoveredLemmas
 pub mod RunLemmas
+pub mod KnownLemmas
+pub mod LastLemmas

@@ -1,10 +1,10 @@
 -- The ready states after the events of a run.
-use Rattle.std.proofs.Common.{◌≡◌, ◌∙◌, ◌+◌, ◌-◌, ◌≤◌, ℕ, Bool, true, false, List, [], ◌∷◌, ◌++◌, length, map, drop, fold, nat_cmp, refl, sym, ap, arith, append_assoc, append-nil, length-append, length-drop, drop-drop}
+use Rattle.std.proofs.Common.{◌≡◌, ◌∙◌, ◌+◌, ◌-◌, ◌≤◌, ℕ, Bool, true, false, List, [], ◌∷◌, ◌++◌, length, drop, fold, nat_cmp, refl, sym, ap, arith, append_assoc, append-nil, length-append, length-drop, drop-drop}
 use Rattle.std.specs.Prelude.{◌||◌}
 use Rattle.std.specs.Ordering.{eq_by_cmp}
 use Rattle.std.specs.List.{list_any}
 use Rattle.std.specs.Cmp.{nat_cmp_total}
-use Rattle.std.specs.FinSet.{FinSet, empty, insert, from_list, contains, same_set, contains-from_list, contains-insert, contains-empty, nat_cmp-IsAntisymmetric}
+use Rattle.std.specs.FinSet.{FinSet, empty, insert, contains, same_set, contains-from_list, contains-insert, contains-empty, nat_cmp-IsAntisymmetric}
 use Rattle.std.proofs.lemmas.List.{drop-append-le}
 use Rattle.rv_event.specs.declared.event.Event.{Event}
 use Rattle.watchers.specs.Counters.{counters, covered_after, all_covered, last_sixteen, last_after}
@@ -13,7 +13,7 @@ use Rattle.watchers.proofs.CoveredLemmas.{or_swap}
 -- ---- the last sixteen
 
 -- the oldest ones that were left out before are left out of the longer list too
-last_again : (xs : List ℕ) (x : ℕ) → last_sixteen (last_sixteen xs ++ x ∷ []) ≡ last_sixteen (xs ++ x ∷ [])
+pub last_again : (xs : List ℕ) (x : ℕ) → last_sixteen (last_sixteen xs ++ x ∷ []) ≡ last_sixteen (xs ++ x ∷ [])
 last_again xs x =
     let fits : length xs - 16 ≤ length xs = omega arith in
     let inside : drop (length xs - 16) xs ++ x ∷ [] ≡ drop (length xs - 16) (xs ++ x ∷ []) = sym (drop-append-le (length xs - 16) xs (x ∷ []) fits) in

@@ -19,6 +19,10 @@ pub trait Step<S: Watched> {
     /// The state after an event. A refusal drops the state.
     fn next(&self, state: S, event: Event) -> Result<S, NoMemory>
         ensures { IfOk result (λ after. after ≡ S.after state event) };
+
+    /// Brings a state on in its place. A refusal leaves some state.
+    fn advance(&self, state: &mut S, event: Event) -> Result<(), NoMemory>
+        ensures { IfOk result (λ _. state.new ≡ S.after state.old event) };
 }
 
 /// A state, and the step that gives the next one. Contracts see the state.
@@ -49,6 +53,13 @@ impl<S: Watched + Drop, F: Step<S> + Drop> Watch<S, F> {
         let Watch { state, next } = self;
         let state = next.next(state, event)?;
         Ok(Watch { state, next })
+    }
+
+    /// Brings the watch on in its place: a state with many bytes isn't moved. A refusal leaves some state.
+    pub fn advance(&mut self, event: Event) -> Result<(), NoMemory>
+        ensures { IfOk result (λ _. self.new ≡ S.after self.old event) }
+    {
+        self.next.advance(&mut self.state, event)
     }
 
     /// The watch after a list of events. A refusal drops the watch.
