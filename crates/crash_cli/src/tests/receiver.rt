@@ -1,7 +1,7 @@
 //! What a receiver does with a program and a report, and runs.
 
 use super::reports::OVERFLOW_REPORT;
-use super::{call, folder, gives, long_program, program};
+use super::{Said, call, folder, gives, long_program, program};
 use fault_io::SteadyFolder;
 use std::alloc::{AllocError, Global};
 use std::test::Fail;
@@ -286,22 +286,32 @@ fn two_lines_of_another_report(rt: HostRuntime) -> Result<(), Fail> {
     Ok(())
 }
 
+/// What is made of a crash under a seed.
+fn made_under_a_seed(alloc: Global) -> Result<Said, Fail> {
+    let mut files = folder(alloc, program(alloc, &COMPARE)?, b"Azzz".to_vec(alloc)?)?;
+    let words = ["make", "p", "x", "--seed", "7"];
+    Ok(call(alloc, &words, &mut files, 4096, 4096)?)
+}
+
+/// Whether a report is accepted, but not under a limit of steps that is too low. That limit is for `check` alone:
+/// `replay` takes as many as the report says.
+fn is_limited(alloc: Global, report: &[u8]) -> Result<bool, Fail> {
+    let mut files = folder(alloc, program(alloc, &COMPARE)?, report.to_vec(alloc)?)?;
+    let check = ["check", "p", "x", "--steps", "7"];
+    let replay = ["replay", "p", "x", "--steps", "7"];
+    Ok(
+        gives(alloc, &CHECK, &mut files, 0, b"check ok\n", b"")?
+            && gives(alloc, &check, &mut files, 8, b"", b"still running\n")?
+            && ends(alloc, &replay, &mut files, (0, ""))?,
+    )
+}
+
 /// A report is checked under its own seed and the limits of the words.
 #[test]
 fn a_report_of_another_seed_and_limits(rt: HostRuntime) -> Result<(), Fail> {
-    let alloc = rt.alloc();
-    let mut files = folder(alloc, program(alloc, &COMPARE)?, b"Azzz".to_vec(alloc)?)?;
-    let words = ["make", "p", "x", "--seed", "7"];
-    let made = call(alloc, &words, &mut files, 4096, 4096)?;
+    let made = made_under_a_seed(rt.alloc())?;
     assert!(rt; made.status == 0);
-    let report = made.out.as_slice();
-    assert!(rt; says(alloc, &CHECK, &COMPARE, report, 0, b"check ok\n", b"")?);
-    let words = ["check", "p", "x", "--steps", "7"];
-    assert!(rt; says(alloc, &words, &COMPARE, report, 8, b"", b"still running\n")?);
-    // The limit of steps is for `check` alone: `replay` takes as many as the report says.
-    let words = ["replay", "p", "x", "--steps", "7"];
-    let mut files = folder(alloc, program(alloc, &COMPARE)?, report.to_vec(alloc)?)?;
-    assert!(rt; call(alloc, &words, &mut files, 4096, 4096)?.status == 0);
+    assert!(rt; is_limited(rt.alloc(), made.out.as_slice())?);
     Ok(())
 }
 
