@@ -1,12 +1,14 @@
 //! Values of registers and bytes: numbers, or terms over the input.
 
-ghost use Rattle.std.specs.Prelude.{◌≡◌, true, IfOk, IfSome};
+ghost use Rattle.std.specs.Prelude.{◌≡◌, ◌<◌, true, IfOk, IfSome};
+ghost use Rattle.term_model.specs.declared.Op.TheVariants.{Byte};
+ghost use Rattle.term_model.specs.Tree.{Const};
 ghost use Rattle.term_arena.specs.Trees.{tree_of, Extends};
 ghost use Rattle.normal_form.specs.Norm.{norm};
 ghost use Rattle.term_model.specs.ByteNumber.{TakesByteNumber};
 ghost use Rattle.path_condition.specs.Sums.{IsNormalTermOf};
 ghost use Rattle.sym_replay.specs.declared.value.Value.TheVariants as values;
-ghost use Rattle.sym_replay.specs.Values.{value_tree, IsTermIn, IsValueIn, IsValueOf, IsSameNumber};
+ghost use Rattle.sym_replay.specs.Values.{value_tree, IsTermIn, IsValueIn, IsValueOf, IsSameNumber, IsOwnByte};
 
 use no_memory::NoMemory;
 use simplify::make;
@@ -105,4 +107,43 @@ pub(crate) fn made(arena: &mut Arena, op: Op, a: &Value, b: &Value) -> Result<Va
         Some((x, y)) => Ok(Value::Known(op.value(x, y))),
         None => made_of_terms(arena, op, a, b),
     }
+}
+
+/// The bytes of a term but the lowest, in the form of [`Arena::zero_bytes`].
+const UPPER_BYTES: u8 = 0b1110;
+
+/// Whether byte 0 of a term is the term, as its form shows: its upper bytes are zero.
+fn is_own_byte(arena: &Arena, t: Term) -> bool
+    requires { IsTermIn arena.now t }
+    ensures { result ≡ true → IsOwnByte (tree_of arena.now t) }
+{
+    match arena.node(t) {
+        Node::Const(_) => false,
+        _ => arena.zero_bytes(t) == UPPER_BYTES,
+    }
+}
+
+/// Whether byte 0 of a value is the value, which is a term.
+fn is_own_lowest(arena: &Arena, v: &Value) -> bool
+    requires { IsValueIn arena.now v.now }
+    ensures { result ≡ true → IsOwnByte (value_tree arena.now v.now) }
+{
+    match v {
+        Value::Known(_) => false,
+        Value::Term(t) => is_own_byte(arena, *t),
+    }
+}
+
+/// Byte `k` of a value. A term that is one byte is its own byte 0, and needs no look-up in the arena.
+pub(crate) fn byte_of_value(arena: &mut Arena, v: &Value, k: u8) -> Result<Value, NoMemory>
+    requires value { IsValueIn arena.old v.now }
+    requires byte { k < 4 }
+    ensures value { IfOk result (IsValueOf arena.new (norm Byte (value_tree arena.old v.now) (Const k))) }
+    ensures keeps { Extends arena.old arena.new }
+{
+    if k == 0 && is_own_lowest(arena, v) {
+        return Ok(*v);
+    }
+    let number = Value::Known(u32::from(k));
+    made(arena, Op::Byte, v, &number)
 }
