@@ -1,5 +1,5 @@
 -- Values of an arena that has grown, and operations on numbers.
-use Rattle.std.proofs.Common.{◌≡◌, ℕ, suc, ◌<◌, ◌%◌, List, [], ◌∷◌, All, Bool, true, false, Option, refl, sym, ap, ◌∙◌, arith, subst, nat_eq}
+use Rattle.std.proofs.Common.{◌≡◌, ℕ, suc, ◌+◌, ◌*◌, ◌<◌, ◌%◌, ◌&&◌, List, [], ◌∷◌, All, Bool, true, false, Option, refl, sym, ap, ◌∙◌, arith, subst, nat_eq}
 use Rattle.std.specs.Int.{from_bool}
 use Rattle.rv_word.specs.Word.{byte_of}
 use Rattle.term_model.specs.declared.Op.{Op}
@@ -8,6 +8,7 @@ use Rattle.term_model.specs.Tree.{Tree, Const, Input, Apply}
 use Rattle.term_model.specs.ZeroBytes.{is_zero_byte, is_one_byte}
 use Rattle.term_model.specs.Value.{op_value}
 use Rattle.term_arena.specs.Trees.{Extends}
+use Rattle.term_arena.specs.Mask.{mask_of}
 use Rattle.normal_form.specs.Norm.{norm, after_rule}
 use Rattle.normal_form.specs.Normal.{IsNormal}
 use Rattle.normal_form.specs.Plan.{Plan, Is, only_if, or_else}
@@ -98,3 +99,22 @@ own_byte (Const c) own = let wrong : true ≡ false = own.no_constant in cc
 own_byte (Input i) own = norm-is Byte (Input i) (Const 0)
 own_byte (Apply op a b) own =
     norm-is Byte (Apply op a b) (Const 0) ∙ second_fits (is_zero_byte (Apply op a b) 0) (is_one_byte (Apply op a b)) (Apply op a b) _ _ own.lowest own.upper
+
+-- a byte of the input is one
+pub own_input : (place : ℕ) → IsOwnByte (Input place)
+own_input place = record { no_constant = refl; lowest = refl; upper = refl }
+
+-- the four bits of 14
+bits_of_mask : (a b c d : Bool) → from_bool a + 2 * from_bool b + 4 * from_bool c + 8 * from_bool d ≡ 14 → (a ≡ false) × (b ≡ true) × (c ≡ true) × (d ≡ true)
+bits_of_mask true b c d e = absurd (omega arith)
+bits_of_mask false false c d e = absurd (omega arith)
+bits_of_mask false true false d e = absurd (omega arith)
+bits_of_mask false true true false e = absurd (omega arith)
+bits_of_mask false true true true e = (refl, refl, refl, refl)
+
+-- an operation whose upper bytes alone are known to be zero is one
+pub own_operation : (op : Op) (a b : Tree) (mask : ℕ) → mask ≡ mask_of (is_zero_byte (Apply op a b)) → mask ≡ 14 → IsOwnByte (Apply op a b)
+own_operation op a b mask is e =
+    let t : Tree = Apply op a b in
+    let bits = bits_of_mask (is_zero_byte t 0) (is_zero_byte t 1) (is_zero_byte t 2) (is_zero_byte t 3) (sym is ∙ e) in
+    record { no_constant = refl; lowest = bits.0; upper = (λ i. bits.1 i && bits.2 i && bits.3 i) }

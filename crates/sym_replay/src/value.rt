@@ -119,29 +119,33 @@ fn is_own_byte(arena: &Arena, t: Term) -> bool
 {
     match arena.node(t) {
         Node::Const(_) => false,
-        _ => arena.zero_bytes(t) == UPPER_BYTES,
+        Node::Input(_) => true,
+        Node::Apply(_, _, _) => arena.zero_bytes(t) == UPPER_BYTES,
     }
 }
 
-/// Whether byte 0 of a value is the value, which is a term.
-fn is_own_lowest(arena: &Arena, v: &Value) -> bool
+/// Whether byte `k` of a value is the value, a term.
+fn has_own_byte(arena: &Arena, v: &Value, k: u8) -> bool
     requires { IsValueIn arena.now v.now }
-    ensures { result ≡ true → IsOwnByte (value_tree arena.now v.now) }
+    ensures { result ≡ true → norm Byte (value_tree arena.now v.now) (Const k) ≡ value_tree arena.now v.now }
 {
+    if k != 0 {
+        return false;
+    }
     match v {
         Value::Known(_) => false,
         Value::Term(t) => is_own_byte(arena, *t),
     }
 }
 
-/// Byte `k` of a value. A term that is one byte is its own byte 0, and needs no look-up in the arena.
+/// Byte `k` of a value. Where it is the value, the arena makes nothing.
 pub(crate) fn byte_of_value(arena: &mut Arena, v: &Value, k: u8) -> Result<Value, NoMemory>
     requires value { IsValueIn arena.old v.now }
     requires byte { k < 4 }
     ensures value { IfOk result (IsValueOf arena.new (norm Byte (value_tree arena.old v.now) (Const k))) }
     ensures keeps { Extends arena.old arena.new }
 {
-    if k == 0 && is_own_lowest(arena, v) {
+    if has_own_byte(arena, v, k) {
         return Ok(*v);
     }
     let number = Value::Known(u32::from(k));
