@@ -16,9 +16,6 @@ use test_programs::{ProgramError, program_file};
 /// addi x17,x0,93, and the ECALL of an exit
 const EXIT: [u32; 2] = [0x05d0_0893, 0x0000_0073];
 
-/// lui x5,0x12345; addi x5,x5,0x678; ebreak
-const NOTHING_READ: [u32; 3] = [0x1234_52b7, 0x6782_8293, EBREAK];
-
 /// A program file of these words.
 fn program(alloc: Global, words: &[u32]) -> Result<Vec<u8>, ProgramError> {
     Ok(program_file(alloc, words, &[])?.into_vec())
@@ -77,6 +74,19 @@ fn is_said(said: &Said, status: u8, out: &[u8], err: &[u8]) -> bool {
     said.status == status && said.out.as_slice() == out && said.err.as_slice() == err
 }
 
+/// Whether the call on these words, over sinks with ample room, says just this.
+fn gives<F: Folder>(
+    alloc: Global,
+    words: &[&str],
+    folder: &mut F,
+    status: u8,
+    out: &[u8],
+    err: &[u8],
+) -> Result<bool, AllocError> {
+    let said = call(alloc, words, folder, 4096, 4096)?;
+    Ok(is_said(&said, status, out, err))
+}
+
 /// Whether `make p x` on these files says just this.
 fn says(
     alloc: Global,
@@ -87,10 +97,10 @@ fn says(
     err: &[u8],
 ) -> Result<bool, AllocError> {
     let mut folder = folder(alloc, program, input)?;
-    let said = call(alloc, &["make", "p", "x"], &mut folder, 4096, 4096)?;
-    Ok(is_said(&said, status, out, err))
+    gives(alloc, &["make", "p", "x"], &mut folder, status, out, err)
 }
 
+/// A breakpoint on the empty input.
 const EMPTY_INPUT: &[u8] = b"crash-report 1
 program 88 390a3f73c14f9c3f6f57143bc249d0bf4376e93cac08051f350bae53b1d3f283
 trap breakpoint 00010000 00000000
@@ -101,49 +111,8 @@ revealed 0 of 0
 end
 ";
 
-#[test]
-fn a_breakpoint_on_the_empty_input(rt: HostRuntime) -> Result<(), Fail> {
-    let alloc = rt.alloc();
-    let program = program(alloc, &[EBREAK])?;
-    assert!(rt; says(alloc, program, Vec::new(alloc), 0, EMPTY_INPUT, b"")?);
-    Ok(())
-}
-
-#[test]
-fn an_input_that_is_never_read(rt: HostRuntime) -> Result<(), Fail> {
-    let alloc = rt.alloc();
-    let text = b"forty bytes of text that nobody may read";
-    let report = b"crash-report 1
-program 96 bf611f4db8db5efc5a3a0cdf416b1bc125ffe2466e00944cdfd0cb9a073ce2a4
-trap breakpoint 00010008 00000000
-steps 3
-seed 0
-input 40
-data 0000000000000000000000000000000000000000000000000000000000000000
-data 0000000000000000
-revealed 0 of 320
-end
-";
-    for input in [text, &[0u8; 40]] {
-        let program = program(alloc, &NOTHING_READ)?;
-        assert!(rt; says(alloc, program, input.to_vec(alloc)?, 0, report, b"")?);
-    }
-    Ok(())
-}
-
-#[test]
-fn an_exit_is_no_crash(rt: HostRuntime) -> Result<(), Fail> {
-    let alloc = rt.alloc();
-    let program = program(alloc, &EXIT)?;
-    assert!(rt; says(alloc, program, Vec::new(alloc), 7, b"", b"no crash\n")?);
-    Ok(())
-}
-
-#[test]
-fn a_breakpoint_on_the_last_step(rt: HostRuntime) -> Result<(), Fail> {
-    let alloc = rt.alloc();
-    let program = long_program(alloc, 999_999)?;
-    let report = b"crash-report 1
+/// A breakpoint on the last step of the limit.
+const LAST_STEP: &[u8] = b"crash-report 1
 program 4000084 0919870884c0819a1b9346051b1922fded0fbe819121712ac907c8c061db0fc4
 trap breakpoint 003e08fc 00000000
 steps 1000000
@@ -152,43 +121,33 @@ input 0
 revealed 0 of 0
 end
 ";
-    assert!(rt; says(alloc, program, Vec::new(alloc), 0, report, b"")?);
-    Ok(())
-}
 
+/// One step more is still running.
 #[test]
-fn one_step_more_is_still_running(rt: HostRuntime) -> Result<(), Fail> {
+fn the_limit_of_steps(rt: HostRuntime) -> Result<(), Fail> {
     let alloc = rt.alloc();
-    let program = long_program(alloc, 1_000_000)?;
-    assert!(rt; says(alloc, program, Vec::new(alloc), 8, b"", b"still running\n")?);
+    let cases: [(usize, u8, &[u8], &[u8]); 2] = [
+        (999_999, 0, LAST_STEP, b""),
+        (1_000_000, 8, b"", b"still running\n"),
+    ];
+    for (nops, status, out, err) in cases {
+        let program = long_program(alloc, nops)?;
+        assert!(rt; says(alloc, program, Vec::new(alloc), status, out, err)?);
+    }
     Ok(())
 }
 
 #[test]
 fn a_file_that_is_no_program(rt: HostRuntime) -> Result<(), Fail> {
     let alloc = rt.alloc();
-    let short = vec![in alloc; 0u8; 51]?;
-    assert!(rt;
-        says(
-            alloc,
-            short,
-            Vec::new(alloc),
-            6,
-            b"",
-            b"not a program: E1 short\n"
-        )?
-    );
-    let zeros = vec![in alloc; 0u8; 52]?;
-    assert!(rt;
-        says(
-            alloc,
-            zeros,
-            Vec::new(alloc),
-            6,
-            b"",
-            b"not a program: E2 not-elf\n"
-        )?
-    );
+    let cases: [(usize, &[u8]); 2] = [
+        (51, b"not a program: E1 short\n"),
+        (52, b"not a program: E2 not-elf\n"),
+    ];
+    for (length, line) in cases {
+        let zeros = vec![in alloc; 0u8; length]?;
+        assert!(rt; says(alloc, zeros, Vec::new(alloc), 6, b"", line)?);
+    }
     let mut odd = program(alloc, &[EBREAK])?;
     if odd.len() > 24 {
         odd[24] = 2;
@@ -209,66 +168,40 @@ fn a_file_that_is_no_program(rt: HostRuntime) -> Result<(), Fail> {
 #[test]
 fn files_that_are_too_long(rt: HostRuntime) -> Result<(), Fail> {
     let alloc = rt.alloc();
-    let long = vec![in alloc; 0u8; 16_777_217]?;
-    assert!(rt; says(alloc, long, Vec::new(alloc), 5, b"", b"program too long\n")?);
-    let input = vec![in alloc; 0u8; 65_537]?;
-    assert!(rt;
-        says(
-            alloc,
-            program(alloc, &[EBREAK])?,
-            input,
-            5,
-            b"",
-            b"input too long\n"
-        )?
-    );
     // At the limits both are read.
-    let longest = vec![in alloc; 0u8; 16_777_216]?;
-    let input = vec![in alloc; 0u8; 65_536]?;
-    assert!(rt;
-        says(
-            alloc,
-            longest,
-            input,
-            6,
-            b"",
-            b"not a program: E2 not-elf\n"
-        )?
-    );
-    Ok(())
-}
-
-#[test]
-fn files_that_are_missing(rt: HostRuntime) -> Result<(), Fail> {
-    let alloc = rt.alloc();
-    let mut folder = folder(alloc, program(alloc, &[EBREAK])?, Vec::new(alloc))?;
-    let said = call(alloc, &["make", "p", "y"], &mut folder, 4096, 4096)?;
-    assert!(rt; is_said(&said, 3, b"", b"cannot read input\n"));
-    let said = call(alloc, &["make", "q", "x"], &mut folder, 4096, 4096)?;
-    assert!(rt; is_said(&said, 3, b"", b"cannot read program\n"));
-    // The empty word is a name too.
-    let said = call(alloc, &["make", "", "x"], &mut folder, 4096, 4096)?;
-    assert!(rt; is_said(&said, 3, b"", b"cannot read program\n"));
+    let cases: [(usize, usize, u8, &[u8]); 2] = [
+        (16_777_217, 0, 5, b"program too long\n"),
+        (16_777_216, 65_536, 6, b"not a program: E2 not-elf\n"),
+    ];
+    for (length, input, status, line) in cases {
+        let zeros = vec![in alloc; 0u8; length]?;
+        let input = vec![in alloc; 0u8; input]?;
+        assert!(rt; says(alloc, zeros, input, status, b"", line)?);
+    }
+    let program = program(alloc, &[EBREAK])?;
+    let input = vec![in alloc; 0u8; 65_537]?;
+    assert!(rt; says(alloc, program, input, 5, b"", b"input too long\n")?);
     Ok(())
 }
 
 const USAGE: &[u8] =
     b"usage: crash_cli ACTION FIRST SECOND [--seed N] [--steps N] [--conflicts N]\n";
 
+/// Files that are missing, and words that are no command. The empty word is a name too.
 #[test]
-fn words_that_are_no_command(rt: HostRuntime) -> Result<(), Fail> {
+fn words_that_name_no_files(rt: HostRuntime) -> Result<(), Fail> {
     let alloc = rt.alloc();
     let mut folder = folder(alloc, program(alloc, &[EBREAK])?, Vec::new(alloc))?;
-    let said = call(alloc, &[], &mut folder, 4096, 4096)?;
-    assert!(rt; is_said(&said, 2, b"", USAGE));
-    let said = call(
-        alloc,
-        &["make", "p", "x", "--steps", "007"],
-        &mut folder,
-        4096,
-        4096,
-    )?;
-    assert!(rt; is_said(&said, 2, b"", USAGE));
+    let cases: [(&[&str], u8, &[u8]); 5] = [
+        (&["make", "p", "y"], 3, b"cannot read input\n"),
+        (&["make", "q", "x"], 3, b"cannot read program\n"),
+        (&["make", "", "x"], 3, b"cannot read program\n"),
+        (&[], 2, USAGE),
+        (&["make", "p", "x", "--steps", "007"], 2, USAGE),
+    ];
+    for (words, status, line) in cases {
+        assert!(rt; gives(alloc, words, &mut folder, status, b"", line)?);
+    }
     Ok(())
 }
 
@@ -289,10 +222,11 @@ fn an_out_that_fills_up(rt: HostRuntime) -> Result<(), Fail> {
 fn an_err_that_fills_up(rt: HostRuntime) -> Result<(), Fail> {
     let alloc = rt.alloc();
     let mut folder = folder(alloc, program(alloc, &EXIT)?, Vec::new(alloc))?;
-    let said = call(alloc, &["make", "p", "x"], &mut folder, 4096, 0)?;
-    assert!(rt; is_said(&said, 7, b"", b""));
-    let said = call(alloc, &["make", "p", "x"], &mut folder, 4096, 5)?;
-    assert!(rt; is_said(&said, 7, b"", b"no cr"));
+    let cases: [(u32, &[u8]); 2] = [(0, b""), (5, b"no cr")];
+    for (room, err) in cases {
+        let said = call(alloc, &["make", "p", "x"], &mut folder, 4096, room)?;
+        assert!(rt; is_said(&said, 7, b"", err));
+    }
     Ok(())
 }
 
@@ -307,13 +241,14 @@ fn a_read_that_fails(rt: HostRuntime) -> Result<(), Fail> {
         let failing = ReadList::from_vec(vec![in alloc; read; 1]?);
         let mut folder = MemFolder::new(FileList::from_vec(files), 50, failing);
         let said = call(alloc, &["make", "p", "x"], &mut folder, 4096, 4096)?;
-        if read <= 4 {
-            assert!(rt; is_said(&said, 3, b"", b"cannot read program\n"));
+        let is_so = if read <= 4 {
+            is_said(&said, 3, b"", b"cannot read program\n")
         } else if read <= 6 {
-            assert!(rt; is_said(&said, 3, b"", b"cannot read input\n"));
+            is_said(&said, 3, b"", b"cannot read input\n")
         } else {
-            assert!(rt; said.status == 0);
-        }
+            said.status == 0
+        };
+        assert!(rt; is_so, "read {read}");
     }
     Ok(())
 }

@@ -1,6 +1,6 @@
 //! Demonstrations. The numbers are those of an independent program.
 
-use super::{call, is_said};
+use super::gives;
 use fault_io::{FileList, SteadyFolder};
 use std::alloc::Global;
 use std::test::Fail;
@@ -8,8 +8,7 @@ use std::test::Fail;
 /// Whether the words of a demonstration, over no files, say just this.
 fn says(alloc: Global, words: &[&str], status: u8, out: &[u8], err: &[u8]) -> Result<bool, Fail> {
     let mut files = SteadyFolder::new(FileList::from_vec(Vec::new(alloc)));
-    let said = call(alloc, words, &mut files, 4096, 4096)?;
-    Ok(is_said(&said, status, out, err))
+    Ok(gives(alloc, words, &mut files, status, out, err)?)
 }
 
 /// Groups of one byte and of three, whole and with bytes that no condition reads.

@@ -1,9 +1,9 @@
 //! What a receiver does with a program and a report, and runs.
 
 use super::reports::OVERFLOW_REPORT;
-use super::{call, folder, is_said, long_program, program};
+use super::{call, folder, gives, long_program, program};
+use fault_io::SteadyFolder;
 use std::alloc::{AllocError, Global};
-use std::process::Abort;
 use std::test::Fail;
 use test_programs::words::{
     BELOW_TEN, COMPARE, COMPARE_WORD, DIVIDE, EBREAK, EQUAL_PAIR, JOINED_TRIPLE, JUMP_TO_TWO,
@@ -21,8 +21,7 @@ fn says(
     err: &[u8],
 ) -> Result<bool, Fail> {
     let mut files = folder(alloc, program(alloc, program_words)?, second.to_vec(alloc)?)?;
-    let said = call(alloc, words, &mut files, 4096, 4096)?;
-    Ok(is_said(&said, status, out, err))
+    Ok(gives(alloc, words, &mut files, status, out, err)?)
 }
 
 const RUN: [&str; 3] = ["run", "p", "x"];
@@ -57,8 +56,7 @@ last 00010004 00010000 00010004 00010000 00010004 00010000 00010004 00010000 \
     let words = ["run", "p", "x", "--steps", "19"];
     assert!(rt; says(alloc, &words, &[NOP, 0xffdf_f06f], b"", 0, limit, b"")?);
     let mut files = folder(alloc, long_program(alloc, 5)?, vec![in alloc; 0u8; 65_537]?)?;
-    let said = call(alloc, &RUN, &mut files, 4096, 4096)?;
-    assert!(rt; is_said(&said, 5, b"", b"input too long\n"));
+    assert!(rt; gives(alloc, &RUN, &mut files, 5, b"", b"input too long\n")?);
     Ok(())
 }
 
@@ -82,6 +80,8 @@ covered 10
 last 00010000 00010004 00010008 0001000c 00010010 00010014 00010018 0001001c 00010020 61616160
 ";
     assert!(rt; says(alloc, &REPLAY, &OVERFLOW, OVERFLOW_REPORT, 0, run, b"")?);
+    // Cut within the first line of the data.
+    let cut = &OVERFLOW_REPORT[..200];
     for words in [CHECK, REPLAY] {
         assert!(rt;
             says(
@@ -94,8 +94,6 @@ last 00010000 00010004 00010008 0001000c 00010010 00010014 00010018 0001001c 000
                 b"wrong program\n"
             )?
         );
-        // Cut within the first line of the data.
-        let cut = &OVERFLOW_REPORT[..200];
         assert!(rt;
             says(
                 alloc,
@@ -163,108 +161,117 @@ fn text_of(
     Ok(text)
 }
 
-/// Asserts what `check` and `replay` say of a report on err. Nothing there is status 0.
-fn expect(
-    rt: &impl Abort,
+/// A status, and the line on err. There is none at status 0.
+type Line = (u8, &'static str);
+
+/// Whether a call ends with a status and a line on err.
+fn ends(
+    alloc: Global,
+    words: &[&str],
+    files: &mut SteadyFolder,
+    line: Line,
+) -> Result<bool, AllocError> {
+    let said = call(alloc, words, files, 4096, 4096)?;
+    Ok(said.status == line.0 && said.err.as_slice() == line.1.as_bytes())
+}
+
+/// Whether `check` and `replay` of a report say this.
+fn received(
     alloc: Global,
     program_words: &[u32],
     report: Vec<u8>,
-    checked: (u8, &str),
-    replayed: (u8, &str),
-) -> Result<(), Fail> {
+    checked: Line,
+    replayed: Line,
+) -> Result<bool, Fail> {
     let mut files = folder(alloc, program(alloc, program_words)?, report)?;
-    let check = call(alloc, &CHECK, &mut files, 4096, 4096)?;
-    assert_eq!(rt; check.status, checked.0);
-    assert!(rt;
-        check.err.as_slice() == checked.1.as_bytes(),
-        "{}",
-        checked.1
-    );
-    let replay = call(alloc, &REPLAY, &mut files, 4096, 4096)?;
-    assert_eq!(rt; replay.status, replayed.0);
-    assert!(rt;
-        replay.err.as_slice() == replayed.1.as_bytes(),
-        "{}",
-        replayed.1
-    );
-    Ok(())
+    Ok(ends(alloc, &CHECK, &mut files, checked)? && ends(alloc, &REPLAY, &mut files, replayed)?)
 }
 
-/// Each line is changed in turn, and what `check` and `replay` answer.
+const WRONG: Line = (11, "wrong program\n");
+
+const DIFFERS_3: Line = (12, "differs: line 3\n");
+
+const DIFFERS_4: Line = (12, "differs: line 4\n");
+
+const DIFFERS_7: Line = (12, "differs: line 7\n");
+
+/// A line's number, what stands there in its place, and what `check` and `replay` say of it.
+const CHANGED_LINES: [(usize, &str, Line, Line); 14] = [
+    (
+        1,
+        "crash-report 2",
+        (10, "not a report: line 1\n"),
+        (10, "not a report: line 1\n"),
+    ),
+    (
+        2,
+        "program 123 097844f4fbc397e36a433f8cbb2da14c7ba64f39bd6dbc5dc903ccb8446c2ecb",
+        WRONG,
+        WRONG,
+    ),
+    (
+        2,
+        "program 124 197844f4fbc397e36a433f8cbb2da14c7ba64f39bd6dbc5dc903ccb8446c2ecb",
+        WRONG,
+        WRONG,
+    ),
+    (3, "trap breakpoint 00010020 00000000", DIFFERS_3, DIFFERS_3),
+    (3, "trap load 00010024 00000000", DIFFERS_3, DIFFERS_3),
+    (3, "trap breakpoint 00010024 00000001", DIFFERS_3, DIFFERS_3),
+    (4, "steps 9", DIFFERS_4, DIFFERS_4),
+    (4, "steps 7", DIFFERS_4, DIFFERS_3),
+    (5, "seed 1", DIFFERS_7, (0, "")),
+    (
+        6,
+        "input 3",
+        (10, "not a report: line 7\n"),
+        (10, "not a report: line 7\n"),
+    ),
+    (7, "data 41000100", DIFFERS_7, (0, "")),
+    (
+        8,
+        "set 0 1 02",
+        (10, "not a report: line 8\n"),
+        (10, "not a report: line 8\n"),
+    ),
+    (
+        9,
+        "revealed 7 of 32",
+        (10, "not a report: line 9\n"),
+        (10, "not a report: line 9\n"),
+    ),
+    (
+        10,
+        "ends",
+        (10, "not a report: line 10\n"),
+        (10, "not a report: line 10\n"),
+    ),
+];
+
+/// Each line is changed in turn.
 #[test]
 fn each_line_of_a_report(rt: HostRuntime) -> Result<(), Fail> {
     let alloc = rt.alloc();
-    let wrong = (11, "wrong program\n");
-    let differs_3 = (12, "differs: line 3\n");
-    let differs_4 = (12, "differs: line 4\n");
-    let differs_7 = (12, "differs: line 7\n");
-    let cases = [
-        (
-            1,
-            "crash-report 2",
-            (10, "not a report: line 1\n"),
-            (10, "not a report: line 1\n"),
-        ),
-        (
-            2,
-            "program 123 097844f4fbc397e36a433f8cbb2da14c7ba64f39bd6dbc5dc903ccb8446c2ecb",
-            wrong,
-            wrong,
-        ),
-        (
-            2,
-            "program 124 197844f4fbc397e36a433f8cbb2da14c7ba64f39bd6dbc5dc903ccb8446c2ecb",
-            wrong,
-            wrong,
-        ),
-        (3, "trap breakpoint 00010020 00000000", differs_3, differs_3),
-        (3, "trap load 00010024 00000000", differs_3, differs_3),
-        (3, "trap breakpoint 00010024 00000001", differs_3, differs_3),
-        (4, "steps 9", differs_4, differs_4),
-        (4, "steps 7", differs_4, differs_3),
-        (5, "seed 1", differs_7, (0, "")),
-        (
-            6,
-            "input 3",
-            (10, "not a report: line 7\n"),
-            (10, "not a report: line 7\n"),
-        ),
-        (7, "data 41000100", differs_7, (0, "")),
-        (
-            8,
-            "set 0 1 02",
-            (10, "not a report: line 8\n"),
-            (10, "not a report: line 8\n"),
-        ),
-        (
-            9,
-            "revealed 7 of 32",
-            (10, "not a report: line 9\n"),
-            (10, "not a report: line 9\n"),
-        ),
-        (
-            10,
-            "ends",
-            (10, "not a report: line 10\n"),
-            (10, "not a report: line 10\n"),
-        ),
-    ];
-    for (number, line, checked, replayed) in cases {
+    for (number, line, checked, replayed) in CHANGED_LINES {
         let text = text_of(alloc, &LINES, &[(number, line)])?;
-        expect(&rt, alloc, &COMPARE, text, checked, replayed)?;
+        assert!(rt;
+            received(alloc, &COMPARE, text, checked, replayed)?,
+            "{line}"
+        );
     }
+    Ok(())
+}
+
+/// A report as it is made, and one with another set and what it reveals.
+#[test]
+fn a_report_and_another_set(rt: HostRuntime) -> Result<(), Fail> {
+    let alloc = rt.alloc();
     let set = "set 0 2 0000000000000000030000000000000000000000000000000000000000000000";
     let text = text_of(alloc, &LINES, &[(8, set), (9, "revealed 7 of 32")])?;
-    expect(
-        &rt,
-        alloc,
-        &COMPARE,
-        text,
-        (12, "differs: line 8\n"),
-        (0, ""),
-    )?;
+    assert!(rt; received(alloc, &COMPARE, text, (12, "differs: line 8\n"), (0, ""))?);
     let text = text_of(alloc, &LINES, &[])?;
-    expect(&rt, alloc, &COMPARE, text, (0, ""), (0, ""))
+    assert!(rt; received(alloc, &COMPARE, text, (0, ""), (0, ""))?);
+    Ok(())
 }
 
 /// The report of an overflown buffer with another set, and with one step more.
@@ -273,17 +280,10 @@ fn two_lines_of_another_report(rt: HostRuntime) -> Result<(), Fail> {
     let alloc = rt.alloc();
     let set = "set 28 3 0000000000000000000000000700000000000000000000000000000000000000";
     let text = text_of(alloc, &OVERFLOW_LINES, &[(9, set)])?;
-    expect(
-        &rt,
-        alloc,
-        &OVERFLOW,
-        text,
-        (12, "differs: line 9\n"),
-        (0, ""),
-    )?;
+    assert!(rt; received(alloc, &OVERFLOW, text, (12, "differs: line 9\n"), (0, ""))?);
     let text = text_of(alloc, &OVERFLOW_LINES, &[(4, "steps 11")])?;
-    let differs = (12, "differs: line 4\n");
-    expect(&rt, alloc, &OVERFLOW, text, differs, differs)
+    assert!(rt; received(alloc, &OVERFLOW, text, DIFFERS_4, DIFFERS_4)?);
+    Ok(())
 }
 
 /// A report is checked under its own seed and the limits of the words.
@@ -291,14 +291,9 @@ fn two_lines_of_another_report(rt: HostRuntime) -> Result<(), Fail> {
 fn a_report_of_another_seed_and_limits(rt: HostRuntime) -> Result<(), Fail> {
     let alloc = rt.alloc();
     let mut files = folder(alloc, program(alloc, &COMPARE)?, b"Azzz".to_vec(alloc)?)?;
-    let made = call(
-        alloc,
-        &["make", "p", "x", "--seed", "7"],
-        &mut files,
-        4096,
-        4096,
-    )?;
-    assert_eq!(rt; made.status, 0);
+    let words = ["make", "p", "x", "--seed", "7"];
+    let made = call(alloc, &words, &mut files, 4096, 4096)?;
+    assert!(rt; made.status == 0);
     let report = made.out.as_slice();
     assert!(rt; says(alloc, &CHECK, &COMPARE, report, 0, b"check ok\n", b"")?);
     let words = ["check", "p", "x", "--steps", "7"];
@@ -306,50 +301,49 @@ fn a_report_of_another_seed_and_limits(rt: HostRuntime) -> Result<(), Fail> {
     // The limit of steps is for `check` alone: `replay` takes as many as the report says.
     let words = ["replay", "p", "x", "--steps", "7"];
     let mut files = folder(alloc, program(alloc, &COMPARE)?, report.to_vec(alloc)?)?;
-    assert_eq!(rt; call(alloc, &words, &mut files, 4096, 4096)?.status, 0);
+    assert!(rt; call(alloc, &words, &mut files, 4096, 4096)?.status == 0);
     Ok(())
 }
 
-/// What is made of a crash is accepted, and run again as the crash.
+/// Programs and inputs, of which one is no crash.
+const MADE: [(&[u32], &[u8]); 12] = [
+    (&COMPARE, b"Azzz"),
+    (&BELOW_TEN, b"\x03"),
+    (&SUM_OF_TWO, b"\x30\x34"),
+    (&RISING_PAIR, b"12"),
+    (&EQUAL_PAIR, b"22"),
+    (&COMPARE_WORD, b"\x78\x56\x34\x12"),
+    (&DIVIDE, b"\0\0"),
+    (&LOAD_X0, b""),
+    (&JUMP_TO_TWO, b""),
+    (&JOINED_TRIPLE, b"\xff\xff\xff"),
+    (&[EBREAK], b"abc"),
+    (
+        &OVERFLOW,
+        b"aaaaaaaaaaaaaaaaaaaaaaaaaaaaaaaaaaaaaaaaaaaaaaaaaaaaaaaaaaaaaaaa",
+    ),
+];
+
+/// Whether what is made of a crash is accepted, and run again as the crash, or there is no crash.
+fn is_received(alloc: Global, words: &[u32], input: &[u8]) -> Result<bool, Fail> {
+    let mut files = folder(alloc, program(alloc, words)?, input.to_vec(alloc)?)?;
+    let run = call(alloc, &RUN, &mut files, 4096, 4096)?;
+    let seed = ["make", "p", "x", "--seed", "3"];
+    let made = call(alloc, &seed, &mut files, 4096, 4096)?;
+    if run.status != 0 || made.status != 0 {
+        return Ok(run.status == 0 && made.status == 7);
+    }
+    let report = made.out.as_slice();
+    Ok(
+        says(alloc, &CHECK, words, report, 0, b"check ok\n", b"")?
+            && says(alloc, &REPLAY, words, report, 0, run.out.as_slice(), b"")?,
+    )
+}
+
 #[test]
 fn reports_that_are_made(rt: HostRuntime) -> Result<(), Fail> {
-    let alloc = rt.alloc();
-    let cases: [(&[u32], &[u8]); 12] = [
-        (&COMPARE, b"Azzz"),
-        (&BELOW_TEN, b"\x03"),
-        (&SUM_OF_TWO, b"\x30\x34"),
-        (&RISING_PAIR, b"12"),
-        (&EQUAL_PAIR, b"22"),
-        (&COMPARE_WORD, b"\x78\x56\x34\x12"),
-        (&DIVIDE, b"\0\0"),
-        (&LOAD_X0, b""),
-        (&JUMP_TO_TWO, b""),
-        (&JOINED_TRIPLE, b"\xff\xff\xff"),
-        (&[EBREAK], b"abc"),
-        (
-            &OVERFLOW,
-            b"aaaaaaaaaaaaaaaaaaaaaaaaaaaaaaaaaaaaaaaaaaaaaaaaaaaaaaaaaaaaaaaa",
-        ),
-    ];
-    for (words, input) in cases {
-        let mut files = folder(alloc, program(alloc, words)?, input.to_vec(alloc)?)?;
-        let run = call(alloc, &RUN, &mut files, 4096, 4096)?;
-        assert_eq!(rt; run.status, 0);
-        let made = call(
-            alloc,
-            &["make", "p", "x", "--seed", "3"],
-            &mut files,
-            4096,
-            4096,
-        )?;
-        if made.status == 0 {
-            let report = made.out.as_slice();
-            assert!(rt; says(alloc, &CHECK, words, report, 0, b"check ok\n", b"")?);
-            assert!(rt; says(alloc, &REPLAY, words, report, 0, run.out.as_slice(), b"")?);
-        } else {
-            // No crash.
-            assert_eq!(rt; made.status, 7);
-        }
+    for (words, input) in MADE {
+        assert!(rt; is_received(rt.alloc(), words, input)?);
     }
     Ok(())
 }

@@ -1,6 +1,8 @@
 //! Words that are a command, and words that are not.
 
-use super::{call, folder, is_said, long_program, program};
+ghost use Rattle.std.specs.Prelude.{◌<◌, length};
+
+use super::{Said, call, folder, gives, long_program, program};
 use crate::command::WordsError;
 use crate::words::{Action, Asked, Options, read_words};
 use rv_assemble::DemoKind;
@@ -52,61 +54,96 @@ fn asked(
     }
 }
 
+/// Lines that ask for `make`: the names of the program and of the input, seed, steps and conflicts.
+const MAKES: [(&str, &str, &str, u64, u32, u32); 7] = [
+    ("make p x", "p", "x", 0, 1_000_000, 10_000),
+    ("make '' x", "", "x", 0, 1_000_000, 10_000),
+    (
+        "make p x --seed 18446744073709551615",
+        "p",
+        "x",
+        u64::MAX,
+        1_000_000,
+        10_000,
+    ),
+    ("make --seed=5 p --steps 1 x", "p", "x", 5, 1, 10_000),
+    (
+        "--conflicts 1000000 make p x --steps=10000000",
+        "p",
+        "x",
+        0,
+        10_000_000,
+        1_000_000,
+    ),
+    (
+        "make --seed 7 -- --seed --steps",
+        "--seed",
+        "--steps",
+        7,
+        1_000_000,
+        10_000,
+    ),
+    ("make - x", "-", "x", 0, 1_000_000, 10_000),
+];
+
+/// Whether a line asks for `make` of a program and an input under these options.
+fn asks_for_make(
+    alloc: Global,
+    line: &str,
+    program: &str,
+    input: &str,
+    options: Options,
+) -> Result<bool, AllocError> {
+    let Some(task) = asked(alloc, line)? else {
+        return Ok(false);
+    };
+    Ok(
+        task.0 == Action::Make
+            && task.1.as_str() == program
+            && task.2.as_str() == input
+            && task.3 == options,
+    )
+}
+
 #[test]
-fn words_that_are_a_command(rt: HostRuntime) -> Result<(), Fail> {
-    let alloc = rt.alloc();
-    let cases = [
-        ("make p x", "p", "x", 0, 1_000_000, 10_000),
-        ("make '' x", "", "x", 0, 1_000_000, 10_000),
-        (
-            "make p x --seed 18446744073709551615",
-            "p",
-            "x",
-            u64::MAX,
-            1_000_000,
-            10_000,
-        ),
-        ("make --seed=5 p --steps 1 x", "p", "x", 5, 1, 10_000),
-        (
-            "--conflicts 1000000 make p x --steps=10000000",
-            "p",
-            "x",
-            0,
-            10_000_000,
-            1_000_000,
-        ),
-        (
-            "make --seed 7 -- --seed --steps",
-            "--seed",
-            "--steps",
-            7,
-            1_000_000,
-            10_000,
-        ),
-        ("make - x", "-", "x", 0, 1_000_000, 10_000),
-    ];
-    for (line, program, input, seed, steps, conflicts) in cases {
-        let Some(task) = asked(alloc, line)? else {
-            assert!(rt; false, "{line}");
-            return Ok(());
+fn words_that_are_a_make(rt: HostRuntime) -> Result<(), Fail> {
+    for (line, program, input, seed, steps, conflicts) in MAKES {
+        let options = Options {
+            seed,
+            steps,
+            conflicts,
         };
-        assert_eq!(rt; task.0, Action::Make, "{line}");
-        assert_eq!(rt; task.1.as_str(), program, "{line}");
-        assert_eq!(rt; task.2.as_str(), input, "{line}");
-        assert_eq!(rt; task.3.seed, seed, "{line}");
-        assert_eq!(rt; task.3.steps, steps, "{line}");
-        assert_eq!(rt; task.3.conflicts, conflicts, "{line}");
+        assert!(rt;
+            asks_for_make(rt.alloc(), line, program, input, options)?,
+            "{line}"
+        );
     }
+    Ok(())
+}
+
+/// Whether a line asks for the demonstration of a kind and size under a seed.
+fn asks_for_demo(
+    alloc: Global,
+    line: &str,
+    kind: DemoKind,
+    size: u32,
+    seed: u64,
+) -> Result<bool, AllocError> {
+    let Some(demo) = demo_asked(alloc, line)? else {
+        return Ok(false);
+    };
+    Ok(demo.0 == kind && demo.1 == size && demo.2.seed == seed)
+}
+
+#[test]
+fn words_that_are_another_command(rt: HostRuntime) -> Result<(), Fail> {
+    let alloc = rt.alloc();
     let demos = [
         ("demo single 3 --seed 4", DemoKind::Single, 3, 4),
         ("--seed=5 demo triple 65536", DemoKind::Triple, 65_536, 5),
     ];
     for (line, kind, size, seed) in demos {
-        let Some(demo) = demo_asked(alloc, line)? else {
-            assert!(rt; false, "{line}");
-            return Ok(());
-        };
-        assert_eq!(rt; (demo.0, demo.1, demo.2.seed), (kind, size, seed), "{line}");
+        assert!(rt; asks_for_demo(alloc, line, kind, size, seed)?, "{line}");
     }
     let actions = [
         ("run p x --seed 3", Action::Run),
@@ -114,57 +151,67 @@ fn words_that_are_a_command(rt: HostRuntime) -> Result<(), Fail> {
         ("--conflicts 2 check p x", Action::Check),
     ];
     for (line, action) in actions {
-        assert_eq!(rt;
-            asked(alloc, line)?.map(|task| task.0),
-            Some(action),
-            "{line}"
-        );
+        let found = asked(alloc, line)?.map(|task| task.0);
+        assert!(rt; found == Some(action), "{line}");
     }
     Ok(())
 }
 
+const NO_COMMANDS: [&str; 33] = [
+    "make",
+    "make p",
+    "make p x y",
+    "demo single 2",
+    "demo triple 65537",
+    "demo double 3",
+    "demo single 03",
+    "demo single",
+    "demo triple 3 4",
+    "demo triple 3 --steps 0",
+    "help p x",
+    "Make p x",
+    "run p",
+    "check p x y",
+    "make p x --seed 18446744073709551616",
+    "make p x --steps 10000001",
+    "make p x --steps 0",
+    "make p x --steps 007",
+    "make p x --conflicts 0",
+    "make p x --conflicts 1000001",
+    "make p x --seed",
+    "make p x --seed 1 --seed 1",
+    "make p x --seed=",
+    "make p x --seed ''",
+    "make p x --seed +1",
+    "make p x --see 1",
+    "make -p x",
+    "make p x --help",
+    "make p x -h",
+    "--version",
+    "make p x -V",
+    "make p x --seed -1",
+    "make p x --unknown 1",
+];
+
+/// Whether a line asks for nothing.
+fn asks_for_nothing(alloc: Global, line: &str) -> Result<bool, AllocError> {
+    Ok(asked(alloc, line)?.is_none() && demo_asked(alloc, line)?.is_none())
+}
+
 #[test]
 fn words_that_are_no_command(rt: HostRuntime) -> Result<(), Fail> {
-    let lines = [
-        "make",
-        "make p",
-        "make p x y",
-        "demo single 2",
-        "demo triple 65537",
-        "demo double 3",
-        "demo single 03",
-        "demo single",
-        "demo triple 3 4",
-        "demo triple 3 --steps 0",
-        "help p x",
-        "Make p x",
-        "run p",
-        "check p x y",
-        "make p x --seed 18446744073709551616",
-        "make p x --steps 10000001",
-        "make p x --steps 0",
-        "make p x --steps 007",
-        "make p x --conflicts 0",
-        "make p x --conflicts 1000001",
-        "make p x --seed",
-        "make p x --seed 1 --seed 1",
-        "make p x --seed=",
-        "make p x --seed ''",
-        "make p x --seed +1",
-        "make p x --see 1",
-        "make -p x",
-        "make p x --help",
-        "make p x -h",
-        "--version",
-        "make p x -V",
-        "make p x --seed -1",
-        "make p x --unknown 1",
-    ];
-    for line in lines {
-        assert!(rt; asked(rt.alloc(), line)?.is_none(), "{line}");
-        assert!(rt; demo_asked(rt.alloc(), line)?.is_none(), "{line}");
+    for line in NO_COMMANDS {
+        assert!(rt; asks_for_nothing(rt.alloc(), line)?, "{line}");
     }
     Ok(())
+}
+
+/// Whether a text was said that has this part.
+fn has_part(said: &Said, part: &[u8]) -> bool
+    requires { 0 < length part.now }
+{
+    let mut parts = said.out.as_slice().windows(part.len());
+    said.status == 0 && parts.any(|other| other == part)
 }
 
 /// The seed is in the report, and gives the values of bytes that nothing tests.
@@ -184,19 +231,11 @@ end
     let branch = program(alloc, &BRANCH_TO_THE_NEXT)?;
     let mut files = folder(alloc, branch, b"U".to_vec(alloc)?)?;
     let words = ["make", "p", "x", "--seed", "1"];
-    let said = call(alloc, &words, &mut files, 4096, 4096)?;
-    assert!(rt; is_said(&said, 0, report, b""));
+    assert!(rt; gives(alloc, &words, &mut files, 0, report, b"")?);
     let mut lone = folder(alloc, program(alloc, &[EBREAK])?, Vec::new(alloc))?;
     let words = ["make", "p", "x", "--seed", "18446744073709551615"];
     let said = call(alloc, &words, &mut lone, 4096, 4096)?;
-    let text: &[u8] = b"steps 1\nseed 18446744073709551615\ninput 0\n";
-    assert_eq!(rt; said.status, 0);
-    assert!(rt;
-        said.out
-            .as_slice()
-            .windows(text.len())
-            .any(|part| part == text)
-    );
+    assert!(rt; has_part(&said, b"steps 1\nseed 18446744073709551615\ninput 0\n"));
     Ok(())
 }
 
@@ -214,31 +253,13 @@ revealed 0 of 0
 end
 ";
     let mut last = folder(alloc, long_program(alloc, 999)?, Vec::new(alloc))?;
-    let said = call(
-        alloc,
-        &["make", "p", "x", "--steps", "1000"],
-        &mut last,
-        4096,
-        4096,
-    )?;
-    assert!(rt; is_said(&said, 0, report, b""));
-    let said = call(
-        alloc,
-        &["make", "p", "x", "--steps", "999"],
-        &mut last,
-        4096,
-        4096,
-    )?;
-    assert!(rt; is_said(&said, 8, b"", b"still running\n"));
+    let thousand = ["make", "p", "x", "--steps", "1000"];
+    assert!(rt; gives(alloc, &thousand, &mut last, 0, report, b"")?);
+    let one_less = ["make", "p", "x", "--steps", "999"];
+    assert!(rt; gives(alloc, &one_less, &mut last, 8, b"", b"still running\n")?);
     // jal x0,0
     let mut endless = folder(alloc, program(alloc, &[0x0000_006f])?, Vec::new(alloc))?;
-    let said = call(
-        alloc,
-        &["make", "p", "x", "--steps=1000"],
-        &mut endless,
-        4096,
-        4096,
-    )?;
-    assert!(rt; is_said(&said, 8, b"", b"still running\n"));
+    let thousand = ["make", "p", "x", "--steps=1000"];
+    assert!(rt; gives(alloc, &thousand, &mut endless, 8, b"", b"still running\n")?);
     Ok(())
 }
