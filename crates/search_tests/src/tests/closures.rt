@@ -4,7 +4,7 @@
 ghost use Rattle.std.specs.Prelude.{◌≡◌, ◌<◌, IfOk, true, false};
 ghost use Rattle.gate_net.specs.Lits.{AreNamed};
 
-use crate::tests::Sequence;
+use super::Sequence;
 use gate_net::{Clause, ClauseList, Formula, Lit};
 use std::alloc::{AllocError, Global};
 use std::test::Fail;
@@ -44,7 +44,7 @@ fn chain(alloc: Global, names: u64) -> Result<Formula, AllocError>
 }
 
 /// Whether these decisions close so.
-fn closes(closer: &mut Closer, decisions: &[Lit], closed: Closed) -> bool
+pub(super) fn closes(closer: &mut Closer, decisions: &[Lit], closed: Closed) -> bool
     requires { AreNamed closer.old.names decisions.now }
     ensures { closer.new.names ≡ closer.old.names }
 {

@@ -4,7 +4,8 @@
 ghost use Rattle.std.specs.Prelude.{◌≡◌, ◌<◌, ℕ, Bool, IfOk, length, Contains};
 ghost use Rattle.gate_net.specs.Lits.{AreNamed};
 
-use crate::tests::Sequence;
+use super::Sequence;
+use super::closures::closes;
 use clause_solver::{Found, SolveError, first_model};
 use gate_net::{Clause, ClauseList, Formula, Lit};
 use std::alloc::{AllocError, Global};
@@ -248,10 +249,10 @@ fn second(closer: &mut Closer) -> Option<bool>
 fn a_closer_and_its_learned_clause(rt: HostRuntime) -> Result<(), Fail> {
     let formula = formula(rt.alloc(), 2, &[[1, 2, 2], [-1, 2, 2]])?;
     let mut closer = Closer::load(rt.alloc(), &formula)?;
-    assert_eq!(rt; second(&mut closer), None);
-    assert_eq!(rt; closer.close(&[literal(2, -2)]), Closed::Conflict);
+    assert!(rt; second(&mut closer) == None);
+    assert!(rt; closes(&mut closer, &[literal(2, -2)], Closed::Conflict));
     closer.learn(&[literal(2, 2)])?;
-    assert_eq!(rt; second(&mut closer), Some(true));
+    assert!(rt; second(&mut closer) == Some(true));
     Ok(())
 }
 
