@@ -51,6 +51,14 @@ struct Said {
     err: MemSink,
 }
 
+fn texts(alloc: Global, words: &[&str]) -> Result<Vec<String>, AllocError> {
+    let mut texts = Vec::new(alloc);
+    for word in words {
+        texts.push(String::from_str(alloc, word)?)?;
+    }
+    Ok(texts)
+}
+
 /// The call on these words, over sinks with so much room.
 fn call<F: Folder>(
     alloc: Global,
@@ -59,10 +67,7 @@ fn call<F: Folder>(
     out_room: u32,
     err_room: u32,
 ) -> Result<Said, AllocError> {
-    let mut texts = Vec::new(alloc);
-    for word in words {
-        texts.push(String::from_str(alloc, word)?)?;
-    }
+    let texts = texts(alloc, words)?;
     let mut out = MemSink::new(alloc, out_room)?;
     let mut err = MemSink::new(alloc, err_room)?;
     let status = run_tool(alloc, texts.as_slice(), folder, &mut out, &mut err);
@@ -205,16 +210,28 @@ fn words_that_name_no_files(rt: HostRuntime) -> Result<(), Fail> {
     Ok(())
 }
 
+/// Whether `make p x` over sinks with so much room says just this.
+fn makes_within(
+    alloc: Global,
+    folder: &mut SteadyFolder,
+    rooms: (u32, u32),
+    status: u8,
+    out: &[u8],
+    err: &[u8],
+) -> Result<bool, AllocError> {
+    let said = call(alloc, &["make", "p", "x"], folder, rooms.0, rooms.1)?;
+    Ok(is_said(&said, status, out, err))
+}
+
 #[test]
 fn an_out_that_fills_up(rt: HostRuntime) -> Result<(), Fail> {
     let alloc = rt.alloc();
     let mut folder = folder(alloc, program(alloc, &[EBREAK])?, Vec::new(alloc))?;
     for room in [0u32, 1, 20, 167] {
-        let said = call(alloc, &["make", "p", "x"], &mut folder, room, 4096)?;
-        assert!(rt; is_said(&said, 4, &EMPTY_INPUT[..room as usize], b"cannot write\n"));
+        let part = &EMPTY_INPUT[..room as usize];
+        assert!(rt; makes_within(alloc, &mut folder, (room, 4096), 4, part, b"cannot write\n")?);
     }
-    let said = call(alloc, &["make", "p", "x"], &mut folder, 168, 0)?;
-    assert!(rt; is_said(&said, 0, EMPTY_INPUT, b""));
+    assert!(rt; makes_within(alloc, &mut folder, (168, 0), 0, EMPTY_INPUT, b"")?);
     Ok(())
 }
 
@@ -224,31 +241,38 @@ fn an_err_that_fills_up(rt: HostRuntime) -> Result<(), Fail> {
     let mut folder = folder(alloc, program(alloc, &EXIT)?, Vec::new(alloc))?;
     let cases: [(u32, &[u8]); 2] = [(0, b""), (5, b"no cr")];
     for (room, err) in cases {
-        let said = call(alloc, &["make", "p", "x"], &mut folder, 4096, room)?;
-        assert!(rt; is_said(&said, 7, b"", err));
+        assert!(rt; makes_within(alloc, &mut folder, (4096, room), 7, b"", err)?);
     }
     Ok(())
 }
 
-/// The fourth read of the program and the second of the input are the ends of the files.
+/// A folder with a program of four reads and an input of two, whose reads of a number fail.
+fn failing_folder(alloc: Global, read: u64) -> Result<MemFolder, Fail> {
+    let mut files = Vec::new(alloc);
+    files.push(named(alloc, "p", program(alloc, &COMPARE)?)?)?;
+    files.push(named(alloc, "x", b"Azzz".to_vec(alloc)?)?)?;
+    let failing = ReadList::from_vec(vec![in alloc; read; 1]?);
+    Ok(MemFolder::new(FileList::from_vec(files), 50, failing))
+}
+
+/// Whether a read that fails is that of the program or of the input. The fourth read of the program and the
+/// second of the input are the ends of the files.
+fn is_told(alloc: Global, read: u64) -> Result<bool, Fail> {
+    let mut folder = failing_folder(alloc, read)?;
+    let said = call(alloc, &["make", "p", "x"], &mut folder, 4096, 4096)?;
+    Ok(if read <= 4 {
+        is_said(&said, 3, b"", b"cannot read program\n")
+    } else if read <= 6 {
+        is_said(&said, 3, b"", b"cannot read input\n")
+    } else {
+        said.status == 0
+    })
+}
+
 #[test]
 fn a_read_that_fails(rt: HostRuntime) -> Result<(), Fail> {
-    let alloc = rt.alloc();
     for read in 1..=7u64 {
-        let mut files = Vec::new(alloc);
-        files.push(named(alloc, "p", program(alloc, &COMPARE)?)?)?;
-        files.push(named(alloc, "x", b"Azzz".to_vec(alloc)?)?)?;
-        let failing = ReadList::from_vec(vec![in alloc; read; 1]?);
-        let mut folder = MemFolder::new(FileList::from_vec(files), 50, failing);
-        let said = call(alloc, &["make", "p", "x"], &mut folder, 4096, 4096)?;
-        let is_so = if read <= 4 {
-            is_said(&said, 3, b"", b"cannot read program\n")
-        } else if read <= 6 {
-            is_said(&said, 3, b"", b"cannot read input\n")
-        } else {
-            said.status == 0
-        };
-        assert!(rt; is_so, "read {read}");
+        assert!(rt; is_told(rt.alloc(), read)?, "read {read}");
     }
     Ok(())
 }

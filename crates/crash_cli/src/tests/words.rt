@@ -232,6 +232,13 @@ end
     let mut files = folder(alloc, branch, b"U".to_vec(alloc)?)?;
     let words = ["make", "p", "x", "--seed", "1"];
     assert!(rt; gives(alloc, &words, &mut files, 0, report, b"")?);
+    Ok(())
+}
+
+/// The largest seed.
+#[test]
+fn a_report_under_the_largest_seed(rt: HostRuntime) -> Result<(), Fail> {
+    let alloc = rt.alloc();
     let mut lone = folder(alloc, program(alloc, &[EBREAK])?, Vec::new(alloc))?;
     let words = ["make", "p", "x", "--seed", "18446744073709551615"];
     let said = call(alloc, &words, &mut lone, 4096, 4096)?;
@@ -257,6 +264,12 @@ end
     assert!(rt; gives(alloc, &thousand, &mut last, 0, report, b"")?);
     let one_less = ["make", "p", "x", "--steps", "999"];
     assert!(rt; gives(alloc, &one_less, &mut last, 8, b"", b"still running\n")?);
+    Ok(())
+}
+
+#[test]
+fn a_program_that_never_ends(rt: HostRuntime) -> Result<(), Fail> {
+    let alloc = rt.alloc();
     // jal x0,0
     let mut endless = folder(alloc, program(alloc, &[0x0000_006f])?, Vec::new(alloc))?;
     let thousand = ["make", "p", "x", "--steps=1000"];

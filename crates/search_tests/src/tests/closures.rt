@@ -58,53 +58,71 @@ fn tells(closer: &Closer, l: Lit, value: Option<bool>) -> bool
     closer.value(l) == value
 }
 
+/// Whether the closes of a chain of 20,000 names tell what leads to what.
+fn chain_is_closed(closer: &mut Closer) -> bool
+    requires { closer.old.names ≡ 20000 }
+    ensures { closer.new.names ≡ 20000 }
+{
+    closes(closer, &[yes(0)], Closed::Set)
+        && tells(closer, yes(19_999), Some(true))
+        && closes(closer, &[yes(0), no(19_999)], Closed::Conflict)
+        && closes(closer, &[], Closed::Set)
+        && tells(closer, yes(19_999), None)
+}
+
 #[test]
 fn a_chain_of_names(rt: HostRuntime) -> Result<(), Fail> {
     let formula = chain(rt.alloc(), 20_000)?;
     let mut closer = Closer::load(rt.alloc(), &formula)?;
     for _ in 0..100 {
-        assert!(rt; closes(&mut closer, &[yes(0)], Closed::Set));
-        assert!(rt; tells(&closer, yes(19_999), Some(true)));
-        assert!(rt; closes(&mut closer, &[yes(0), no(19_999)], Closed::Conflict));
-        assert!(rt; closes(&mut closer, &[], Closed::Set));
-        assert!(rt; tells(&closer, yes(19_999), None));
+        assert!(rt; chain_is_closed(&mut closer));
     }
     Ok(())
+}
+
+/// Whether a chain of four names is closed with clauses that repeat a literal, and with such decisions.
+fn closes_with_repeats(closer: &mut Closer) -> Result<bool, AllocError>
+    requires { closer.old.names ≡ 4 }
+{
+    closer.learn(&[])?;
+    closer.learn(&[yes(1), no(1)])?;
+    let is_first = closes(closer, &[], Closed::Set) && tells(closer, yes(0), None);
+    closer.learn(&[no(3), no(3)])?;
+    Ok(
+        is_first
+            && closes(closer, &[], Closed::Set)
+            && tells(closer, yes(0), Some(false))
+            && closes(closer, &[yes(0)], Closed::Conflict)
+            && closes(closer, &[no(0), no(0)], Closed::Set),
+    )
 }
 
 #[test]
 fn clauses_that_repeat_a_literal(rt: HostRuntime) -> Result<(), Fail> {
     let formula = chain(rt.alloc(), 4)?;
     let mut closer = Closer::load(rt.alloc(), &formula)?;
-    closer.learn(&[])?;
-    closer.learn(&[yes(1), no(1)])?;
-    assert!(rt; closes(&mut closer, &[], Closed::Set));
-    assert!(rt; tells(&closer, yes(0), None));
-    closer.learn(&[no(3), no(3)])?;
-    assert!(rt; closes(&mut closer, &[], Closed::Set));
-    assert!(rt; tells(&closer, yes(0), Some(false)));
-    assert!(rt; closes(&mut closer, &[yes(0)], Closed::Conflict));
-    assert!(rt; closes(&mut closer, &[no(0), no(0)], Closed::Set));
+    assert!(rt; closes_with_repeats(&mut closer)?);
     Ok(())
+}
+
+/// Whether a chain of four names is closed under decisions that begin as others did.
+fn closes_again(closer: &mut Closer) -> bool
+    requires { closer.old.names ≡ 4 }
+{
+    closes(closer, &[yes(2), yes(3), yes(1)], Closed::Set)
+        && tells(closer, yes(0), None)
+        && closes(closer, &[yes(2), yes(3), no(1), yes(0)], Closed::Conflict)
+        && closes(closer, &[yes(2), no(1), no(1)], Closed::Set)
+        && tells(closer, no(0), Some(true))
+        && tells(closer, yes(3), Some(true))
+        && closes(closer, &[yes(1), no(1)], Closed::Conflict)
 }
 
 #[test]
 fn decisions_that_differ_late(rt: HostRuntime) -> Result<(), Fail> {
     let formula = chain(rt.alloc(), 4)?;
     let mut closer = Closer::load(rt.alloc(), &formula)?;
-    assert!(rt; closes(&mut closer, &[yes(2), yes(3), yes(1)], Closed::Set));
-    assert!(rt; tells(&closer, yes(0), None));
-    assert!(rt;
-        closes(
-            &mut closer,
-            &[yes(2), yes(3), no(1), yes(0)],
-            Closed::Conflict
-        )
-    );
-    assert!(rt; closes(&mut closer, &[yes(2), no(1), no(1)], Closed::Set));
-    assert!(rt; tells(&closer, no(0), Some(true)));
-    assert!(rt; tells(&closer, yes(3), Some(true)));
-    assert!(rt; closes(&mut closer, &[yes(1), no(1)], Closed::Conflict));
+    assert!(rt; closes_again(&mut closer));
     Ok(())
 }
 
@@ -252,7 +270,41 @@ fn agrees(closer: &mut Closer, clauses: &[Clause], decisions: &[Lit]) -> bool
     told(closer, decisions) == values(&scan(clauses, decisions))
 }
 
-/// Each clause is learned before a part of it, which may be the same again.
+/// Whether the closer tells what a scan does once a clause is learned too, under some decisions.
+fn learns(
+    alloc: Global,
+    closer: &mut Closer,
+    clauses: &mut Vec<Clause>,
+    clause: &[Lit],
+    decisions: &[Lit],
+) -> Result<bool, AllocError>
+    requires names { closer.old.names ≡ 16 }
+    requires clause { AreNamed 16 clause.now }
+    requires decisions { AreNamed 16 decisions.now }
+    ensures { closer.new.names ≡ 16 }
+{
+    learn(alloc, closer, clauses, clause)?;
+    Ok(agrees(closer, clauses.as_slice(), decisions))
+}
+
+/// Whether it does so for a clause of the sequence, and then for a part of it, which may be the same again.
+fn learns_both(
+    alloc: Global,
+    sequence: &mut Sequence,
+    closer: &mut Closer,
+    clauses: &mut Vec<Clause>,
+) -> Result<bool, AllocError>
+    requires { closer.old.names ≡ 16 }
+    ensures { closer.new.names ≡ 16 }
+{
+    let clause = sequence.clause(alloc)?;
+    let decisions = sequence.literals(alloc)?;
+    let first = learns(alloc, closer, clauses, &clause, &decisions)?;
+    let part = sequence.part(alloc, &clause)?;
+    let decisions = sequence.literals(alloc)?;
+    Ok(first && learns(alloc, closer, clauses, &part, &decisions)?)
+}
+
 #[test]
 fn clauses_of_which_others_are_parts(rt: HostRuntime) -> Result<(), Fail> {
     let mut sequence = Sequence { state: 1 };
@@ -263,14 +315,7 @@ fn clauses_of_which_others_are_parts(rt: HostRuntime) -> Result<(), Fail> {
     };
     let mut closer = Closer::load(rt.alloc(), &formula)?;
     for _ in 0..100 {
-        let clause = sequence.clause(rt.alloc())?;
-        learn(rt.alloc(), &mut closer, &mut clauses, clause.as_slice())?;
-        let decisions = sequence.literals(rt.alloc())?;
-        assert!(rt; agrees(&mut closer, clauses.as_slice(), decisions.as_slice()));
-        let part = sequence.part(rt.alloc(), clause.as_slice())?;
-        learn(rt.alloc(), &mut closer, &mut clauses, part.as_slice())?;
-        let decisions = sequence.literals(rt.alloc())?;
-        assert!(rt; agrees(&mut closer, clauses.as_slice(), decisions.as_slice()));
+        assert!(rt; learns_both(rt.alloc(), &mut sequence, &mut closer, &mut clauses)?);
     }
     Ok(())
 }

@@ -3,7 +3,7 @@
 ghost use Rattle.std.specs.Prelude.{◌<◌, ◌≤◌, length, IfOk};
 
 use gate_net::{Clause, ClauseList, Formula, Gate, Lit, Net};
-use std::alloc::AllocError;
+use std::alloc::{AllocError, Global};
 use std::test::Fail;
 
 /// The Lit of a bit of the input.
@@ -67,79 +67,92 @@ fn is_gate(net: &Net, name: u64, gate: Gate) -> bool
 #[test]
 fn a_new_net_has_yes_alone(rt: HostRuntime) -> Result<(), Fail> {
     let net = Net::new(rt.alloc())?;
-    assert!(rt; has(&net, 1));
-    assert!(rt; is_gate(&net, 0, Gate::Yes));
+    assert!(rt; has(&net, 1) && is_gate(&net, 0, Gate::Yes));
     Ok(())
 }
 
-#[test]
-fn and_needs_no_gate_with_a_constant_or_its_operand(rt: HostRuntime) -> Result<(), Fail> {
-    let mut net = Net::new(rt.alloc())?;
-    let a = bit(&mut net, 0, 0)?;
-    assert!(rt; and(&mut net, a, a.not())? == Lit::NO);
-    assert!(rt; and(&mut net, a, Lit::NO)? == Lit::NO);
-    assert!(rt; and(&mut net, Lit::YES, a)? == a);
-    assert!(rt; has(&net, 2));
-    Ok(())
+/// Whether `and` of a new bit with a constant or its own operand makes no gate.
+fn and_makes_no_gate(net: &mut Net) -> Result<bool, AllocError>
+    requires { 0 < length net.old }
+{
+    let a = bit(net, 0, 0)?;
+    Ok(
+        and(net, a, a.not())? == Lit::NO
+            && and(net, a, Lit::NO)? == Lit::NO
+            && and(net, Lit::YES, a)? == a
+            && has(net, 2),
+    )
+}
+
+/// Whether `xor` of a new bit with a constant or its own operand makes no gate.
+fn xor_makes_no_gate(net: &mut Net) -> Result<bool, AllocError>
+    requires { 0 < length net.old }
+{
+    let a = bit(net, 0, 0)?;
+    Ok(
+        xor(net, a, a.not())? == Lit::YES
+            && xor(net, a, a)? == Lit::NO
+            && xor(net, a, Lit::YES)? == a.not()
+            && has(net, 2),
+    )
+}
+
+/// Whether a choice by a constant, or of equal bits, makes no gate.
+fn mux_makes_no_gate(net: &mut Net) -> Result<bool, AllocError>
+    requires { 0 < length net.old }
+{
+    let a = bit(net, 0, 0)?;
+    let b = bit(net, 0, 1)?;
+    Ok(
+        mux(net, Lit::YES, a, b)? == a
+            && mux(net, Lit::NO, a, b)? == b
+            && mux(net, a, b, b)? == b
+            && has(net, 3),
+    )
 }
 
 #[test]
-fn xor_needs_no_gate_with_a_constant_or_its_operand(rt: HostRuntime) -> Result<(), Fail> {
-    let mut net = Net::new(rt.alloc())?;
-    let a = bit(&mut net, 0, 0)?;
-    assert!(rt; xor(&mut net, a, a.not())? == Lit::YES);
-    assert!(rt; xor(&mut net, a, a)? == Lit::NO);
-    assert!(rt; xor(&mut net, a, Lit::YES)? == a.not());
-    assert!(rt; has(&net, 2));
+fn constants_and_operands_need_no_gate(rt: HostRuntime) -> Result<(), Fail> {
+    assert!(rt; and_makes_no_gate(&mut Net::new(rt.alloc())?)?);
+    assert!(rt; xor_makes_no_gate(&mut Net::new(rt.alloc())?)?);
+    assert!(rt; mux_makes_no_gate(&mut Net::new(rt.alloc())?)?);
     Ok(())
 }
 
-#[test]
-fn a_choice_by_a_constant_needs_no_gate(rt: HostRuntime) -> Result<(), Fail> {
-    let mut net = Net::new(rt.alloc())?;
-    let a = bit(&mut net, 0, 0)?;
-    let b = bit(&mut net, 0, 1)?;
-    assert!(rt; mux(&mut net, Lit::YES, a, b)? == a);
-    assert!(rt; mux(&mut net, Lit::NO, a, b)? == b);
-    assert!(rt; mux(&mut net, a, b, b)? == b);
-    assert!(rt; has(&net, 3));
-    Ok(())
+/// Whether the signs of operands are taken off `xor`.
+fn xor_takes_signs_off(net: &mut Net) -> Result<bool, AllocError> {
+    let a = bit(net, 0, 0)?;
+    let b = bit(net, 1, 7)?;
+    let apart = xor(net, a, b)?;
+    Ok(
+        xor(net, a.not(), b)? == apart.not()
+            && is_gate(net, apart.name, Gate::Xor(a, b))
+            && has(net, 4),
+    )
 }
 
-#[test]
-fn signs_are_taken_off_xor(rt: HostRuntime) -> Result<(), Fail> {
-    let mut net = Net::new(rt.alloc())?;
-    let a = bit(&mut net, 0, 0)?;
-    let b = bit(&mut net, 1, 7)?;
-    let apart = xor(&mut net, a, b)?;
-    assert!(rt; xor(&mut net, a.not(), b)? == apart.not());
-    assert!(rt; is_gate(&net, apart.name, Gate::Xor(a, b)));
-    assert!(rt; has(&net, 4));
-    Ok(())
+/// Whether equal trees have one name, and others have not.
+fn equal_trees_are_one(net: &mut Net) -> Result<bool, AllocError> {
+    let a = bit(net, 0, 0)?;
+    let b = bit(net, 1, 7)?;
+    let both = and(net, a, b.not())?;
+    Ok(or(net, a.not(), b)? == both.not() && and(net, b.not(), a)? != both && has(net, 5))
+}
+
+/// Whether a choice takes three gates, once.
+fn choice_takes_three(net: &mut Net) -> Result<bool, AllocError> {
+    let c = bit(net, 0, 0)?;
+    let a = bit(net, 0, 1)?;
+    let b = bit(net, 0, 2)?;
+    let chosen = mux(net, c, a, b)?;
+    Ok(has(net, 7) && mux(net, c, a, b)? == chosen && has(net, 7))
 }
 
 #[test]
 fn equal_trees_are_one_name(rt: HostRuntime) -> Result<(), Fail> {
-    let mut net = Net::new(rt.alloc())?;
-    let a = bit(&mut net, 0, 0)?;
-    let b = bit(&mut net, 1, 7)?;
-    let both = and(&mut net, a, b.not())?;
-    assert!(rt; or(&mut net, a.not(), b)? == both.not());
-    assert!(rt; and(&mut net, b.not(), a)? != both);
-    assert!(rt; has(&net, 5));
-    Ok(())
-}
-
-#[test]
-fn a_choice_takes_three_gates(rt: HostRuntime) -> Result<(), Fail> {
-    let mut net = Net::new(rt.alloc())?;
-    let c = bit(&mut net, 0, 0)?;
-    let a = bit(&mut net, 0, 1)?;
-    let b = bit(&mut net, 0, 2)?;
-    let chosen = mux(&mut net, c, a, b)?;
-    assert!(rt; has(&net, 7));
-    assert!(rt; mux(&mut net, c, a, b)? == chosen);
-    assert!(rt; has(&net, 7));
+    assert!(rt; xor_takes_signs_off(&mut Net::new(rt.alloc())?)?);
+    assert!(rt; equal_trees_are_one(&mut Net::new(rt.alloc())?)?);
+    assert!(rt; choice_takes_three(&mut Net::new(rt.alloc())?)?);
     Ok(())
 }
 
@@ -162,17 +175,20 @@ fn a_refusal_leaves_each_name(rt: HostRuntime) -> Result<(), Fail> {
     Ok(())
 }
 
-#[test]
-fn lists_keep_their_items(rt: HostRuntime) -> Result<(), Fail> {
-    let items = vec![in rt.alloc(); Lit::YES, Lit::NO]?;
-    let clause = Clause::from_vec(items);
-    assert_eq!(rt; clause.as_slice(), [Lit::YES, Lit::NO].as_slice());
-    assert_eq!(rt; clause.into_vec().len(), 2);
+/// Whether a formula without clauses has none.
+fn formula_keeps_none(alloc: Global) -> bool {
     let formula = Formula {
         names: 1,
-        clauses: ClauseList::from_vec(Vec::new(rt.alloc())),
+        clauses: ClauseList::from_vec(Vec::new(alloc)),
     };
-    assert_eq!(rt; formula.clauses.as_slice().len(), 0);
-    assert_eq!(rt; formula.clauses.into_vec().len(), 0);
+    formula.clauses.as_slice().len() == 0 && formula.clauses.into_vec().len() == 0
+}
+
+#[test]
+fn lists_keep_their_items(rt: HostRuntime) -> Result<(), Fail> {
+    let clause = Clause::from_vec(vec![in rt.alloc(); Lit::YES, Lit::NO]?);
+    assert!(rt; clause.as_slice() == [Lit::YES, Lit::NO].as_slice());
+    assert!(rt; clause.into_vec().len() == 2);
+    assert!(rt; formula_keeps_none(rt.alloc()));
     Ok(())
 }
