@@ -45,18 +45,49 @@ fn even_byte_is(arena: &mut Arena, place: u32, number: u32) -> Result<Term, Allo
     arena.intern(Op::Eq, even, constant)
 }
 
+/// The conditions of a target that is a word of the input.
+fn target(alloc: Global, arena: &mut Arena) -> Result<Conditions, AllocError> {
+    let sum = word_at(arena, 28)?;
+    let mut conditions = Conditions::new(alloc);
+    conditions.add_target(arena, sum, 0x6161_6160)?;
+    Ok(conditions)
+}
+
+/// The conditions of a pin of a word of the input and 4.
+fn pin(alloc: Global, arena: &mut Arena) -> Result<Conditions, AllocError> {
+    let word = word_at(arena, 0)?;
+    let four = arena.constant(4)?;
+    let address = make(arena, Op::Alu(AluOp::Add), word, four)?;
+    let mut conditions = Conditions::new(alloc);
+    conditions.add_pin(arena, address, 0x0010_0077)?;
+    Ok(conditions)
+}
+
+/// The terms of the first even byte and of the other bytes of a target.
+fn target_bytes(arena: &mut Arena) -> Result<[Term; 4], AllocError> {
+    Ok([
+        even_byte_is(arena, 28, 0x60)?,
+        byte_is(arena, 29, 0x61)?,
+        byte_is(arena, 30, 0x61)?,
+        byte_is(arena, 31, 0x61)?,
+    ])
+}
+
+/// The terms of the bytes of a pin.
+fn pin_bytes(arena: &mut Arena) -> Result<[Term; 4], AllocError> {
+    Ok([
+        byte_is(arena, 0, 0x73)?,
+        byte_is(arena, 1, 0)?,
+        byte_is(arena, 2, 0x10)?,
+        byte_is(arena, 3, 0)?,
+    ])
+}
+
 #[test]
 fn a_target_is_told_byte_by_byte(rt: HostRuntime) -> Result<(), Fail> {
     let mut arena = Arena::new(rt.alloc())?;
-    let sum = word_at(&mut arena, 28)?;
-    let mut conditions = Conditions::new(rt.alloc());
-    conditions.add_target(&mut arena, sum, 0x6161_6160)?;
-    let expected = [
-        even_byte_is(&mut arena, 28, 0x60)?,
-        byte_is(&mut arena, 29, 0x61)?,
-        byte_is(&mut arena, 30, 0x61)?,
-        byte_is(&mut arena, 31, 0x61)?,
-    ];
+    let conditions = target(rt.alloc(), &mut arena)?;
+    let expected = target_bytes(&mut arena)?;
     assert_eq!(rt; conditions.list(), expected.as_slice());
     Ok(())
 }
@@ -64,17 +95,8 @@ fn a_target_is_told_byte_by_byte(rt: HostRuntime) -> Result<(), Fail> {
 #[test]
 fn a_pin_takes_off_what_is_added(rt: HostRuntime) -> Result<(), Fail> {
     let mut arena = Arena::new(rt.alloc())?;
-    let word = word_at(&mut arena, 0)?;
-    let four = arena.constant(4)?;
-    let address = make(&mut arena, Op::Alu(AluOp::Add), word, four)?;
-    let mut conditions = Conditions::new(rt.alloc());
-    conditions.add_pin(&mut arena, address, 0x0010_0077)?;
-    let expected = [
-        byte_is(&mut arena, 0, 0x73)?,
-        byte_is(&mut arena, 1, 0)?,
-        byte_is(&mut arena, 2, 0x10)?,
-        byte_is(&mut arena, 3, 0)?,
-    ];
+    let conditions = pin(rt.alloc(), &mut arena)?;
+    let expected = pin_bytes(&mut arena)?;
     assert_eq!(rt; conditions.list(), expected.as_slice());
     Ok(())
 }

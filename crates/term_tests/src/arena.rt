@@ -40,36 +40,56 @@ fn is_equation(arena: &Arena, t: Term, a: Term, b: Term) -> bool
     arena.node(t) == Node::Apply(Op::Eq, a, b)
 }
 
+/// Whether equal trees are one term, and a tree with its operands turned is another.
+fn equal_trees_are_one(arena: &mut Arena) -> Result<bool, AllocError> {
+    let a = byte(arena, 0)?;
+    let b = word(arena, 5)?;
+    let has_two = arena.len() == 2;
+    let first = applied(arena, Op::Eq, a, b)?;
+    Ok(
+        has_two
+            && first == applied(arena, Op::Eq, a, b)?
+            && arena.len() == 3
+            && is_equation(arena, first, a, b)
+            && first != applied(arena, Op::Eq, b, a)?,
+    )
+}
+
 #[test]
 fn equal_trees_are_one_term(rt: HostRuntime) -> Result<(), Fail> {
-    let mut arena = Arena::new(rt.alloc())?;
-    let a = byte(&mut arena, 0)?;
-    let b = word(&mut arena, 5)?;
-    assert_eq!(rt; arena.len(), 2);
-    let first = applied(&mut arena, Op::Eq, a, b)?;
-    assert!(rt; first == applied(&mut arena, Op::Eq, a, b)?);
-    assert_eq!(rt; arena.len(), 3);
-    assert!(rt; is_equation(&arena, first, a, b));
-    assert!(rt; first != applied(&mut arena, Op::Eq, b, a)?);
+    assert!(rt; equal_trees_are_one(&mut Arena::new(rt.alloc())?)?);
     Ok(())
+}
+
+/// The equation of the sum of the first byte and 5 with the pair of the first two bytes, the sum first.
+fn sum_first(arena: &mut Arena) -> Result<Term, AllocError>
+    ensures grows { length arena.old ≤ length arena.new }
+{
+    let low = byte(arena, 0)?;
+    let five = word(arena, 5)?;
+    let sum = applied(arena, Op::Alu(AluOp::Add), low, five)?;
+    let high = byte(arena, 1)?;
+    let pair = applied(arena, Op::Pair, low, high)?;
+    applied(arena, Op::Eq, sum, pair)
+}
+
+/// The same, the pair first.
+fn pair_first(arena: &mut Arena) -> Result<Term, AllocError>
+    ensures grows { length arena.old ≤ length arena.new }
+{
+    let high = byte(arena, 1)?;
+    let low = byte(arena, 0)?;
+    let pair = applied(arena, Op::Pair, low, high)?;
+    let five = word(arena, 5)?;
+    let sum = applied(arena, Op::Alu(AluOp::Add), low, five)?;
+    applied(arena, Op::Eq, sum, pair)
 }
 
 #[test]
 fn trees_made_in_another_order_are_one_term(rt: HostRuntime) -> Result<(), Fail> {
     let mut arena = Arena::new(rt.alloc())?;
-    let low = byte(&mut arena, 0)?;
-    let five = word(&mut arena, 5)?;
-    let sum = applied(&mut arena, Op::Alu(AluOp::Add), low, five)?;
-    let high = byte(&mut arena, 1)?;
-    let pair = applied(&mut arena, Op::Pair, low, high)?;
-    let first = applied(&mut arena, Op::Eq, sum, pair)?;
-    let high = byte(&mut arena, 1)?;
-    let low = byte(&mut arena, 0)?;
-    let pair = applied(&mut arena, Op::Pair, low, high)?;
-    let five = word(&mut arena, 5)?;
-    let sum = applied(&mut arena, Op::Alu(AluOp::Add), low, five)?;
-    assert!(rt; first == applied(&mut arena, Op::Eq, sum, pair)?);
-    assert_eq!(rt; arena.len(), 6);
+    let first = sum_first(&mut arena)?;
+    assert!(rt; pair_first(&mut arena)? == first && arena.len() == 6);
     Ok(())
 }
 
@@ -82,22 +102,26 @@ fn zero_bytes_of(arena: &mut Arena, op: Op, a: Term, b: Term) -> Result<u8, Allo
     Ok(arena.zero_bytes(t))
 }
 
+/// The zero bytes of some terms.
+fn masks(arena: &mut Arena) -> Result<[u8; 8], AllocError> {
+    let first = byte(arena, 0)?;
+    let eight = word(arena, 8)?;
+    let second_byte = word(arena, 0xff00)?;
+    Ok([
+        arena.zero_bytes(second_byte),
+        zero_bytes_of(arena, Op::Pair, second_byte, first)?,
+        zero_bytes_of(arena, Op::Half, first, second_byte)?,
+        zero_bytes_of(arena, Op::Alu(AluOp::Or), first, second_byte)?,
+        zero_bytes_of(arena, Op::Alu(AluOp::And), first, second_byte)?,
+        zero_bytes_of(arena, Op::Alu(AluOp::Sll), first, eight)?,
+        zero_bytes_of(arena, Op::Alu(AluOp::Srl), second_byte, eight)?,
+        zero_bytes_of(arena, Op::Alu(AluOp::Sll), first, first)?,
+    ])
+}
+
 #[test]
 fn zero_bytes_are_those_of_the_table(rt: HostRuntime) -> Result<(), Fail> {
-    let mut arena = Arena::new(rt.alloc())?;
-    let first = byte(&mut arena, 0)?;
-    let eight = word(&mut arena, 8)?;
-    let second_byte = word(&mut arena, 0xff00)?;
-    let masks = [
-        arena.zero_bytes(second_byte),
-        zero_bytes_of(&mut arena, Op::Pair, second_byte, first)?,
-        zero_bytes_of(&mut arena, Op::Half, first, second_byte)?,
-        zero_bytes_of(&mut arena, Op::Alu(AluOp::Or), first, second_byte)?,
-        zero_bytes_of(&mut arena, Op::Alu(AluOp::And), first, second_byte)?,
-        zero_bytes_of(&mut arena, Op::Alu(AluOp::Sll), first, eight)?,
-        zero_bytes_of(&mut arena, Op::Alu(AluOp::Srl), second_byte, eight)?,
-        zero_bytes_of(&mut arena, Op::Alu(AluOp::Sll), first, first)?,
-    ];
+    let masks = masks(&mut Arena::new(rt.alloc())?)?;
     assert_eq!(rt; masks, [13, 13, 6, 12, 15, 13, 14, 0]);
     Ok(())
 }
@@ -110,10 +134,9 @@ fn a_deep_term_is_valued(rt: HostRuntime) -> Result<(), Fail> {
     for _ in 0..1_000_000 {
         t = arena.intern(Op::Alu(AluOp::Xor), t, second)?;
     }
-    assert_eq!(rt; arena.len(), 1_000_002);
+    assert!(rt; arena.len() == 1_000_002);
     let mut scratch = Scratch::for_arena(rt.alloc(), &arena)?;
-    assert_eq!(rt; arena.eval(t, &[3, 5], &mut scratch), 3);
-    assert_eq!(rt; arena.zero_bytes(t), 14);
+    assert!(rt; arena.eval(t, &[3, 5], &mut scratch) == 3 && arena.zero_bytes(t) == 14);
     Ok(())
 }
 
@@ -128,11 +151,13 @@ fn a_node_under_many_is_valued_once_a_call(rt: HostRuntime) -> Result<(), Fail> 
         newer = next;
     }
     let mut scratch = Scratch::for_arena(rt.alloc(), &arena)?;
-    assert_eq!(rt; scratch.room(), 201);
-    assert_eq!(rt; arena.eval(newer, &[3, 5], &mut scratch), 6);
-    assert_eq!(rt; arena.eval(newer, &[7, 2], &mut scratch), 5);
-    assert_eq!(rt; arena.eval(older, &[7, 2], &mut scratch), 2);
-    assert_eq!(rt; scratch.room(), 201);
+    assert!(rt;
+        scratch.room() == 201
+            && arena.eval(newer, &[3, 5], &mut scratch) == 6
+            && arena.eval(newer, &[7, 2], &mut scratch) == 5
+            && arena.eval(older, &[7, 2], &mut scratch) == 2
+            && scratch.room() == 201
+    );
     Ok(())
 }
 
@@ -144,6 +169,26 @@ fn refusal_adds_nothing(arena: &mut Arena, place: u32) -> bool
     arena.input(place).is_ok() || arena.len() == before
 }
 
+/// Whether an equation is the same once the arena has grown or refused to.
+fn keeps_equation(
+    arena: &mut Arena,
+    place: u32,
+    first: Term,
+    a: Term,
+    b: Term,
+) -> Result<bool, AllocError>
+    requires first { first < length arena.old }
+    requires left { a < length arena.old }
+    requires right { b < length arena.old }
+    ensures grows { length arena.old ≤ length arena.new }
+{
+    Ok(
+        refusal_adds_nothing(arena, place)
+            && is_equation(arena, first, a, b)
+            && first == applied(arena, Op::Eq, a, b)?,
+    )
+}
+
 #[test]
 fn a_refusal_leaves_each_term(rt: HostRuntime) -> Result<(), Fail> {
     let mut arena = Arena::new(rt.alloc())?;
@@ -151,9 +196,7 @@ fn a_refusal_leaves_each_term(rt: HostRuntime) -> Result<(), Fail> {
     let b = word(&mut arena, 5)?;
     let first = applied(&mut arena, Op::Eq, a, b)?;
     for place in 1..40 {
-        assert!(rt; refusal_adds_nothing(&mut arena, place));
-        assert!(rt; is_equation(&arena, first, a, b));
-        assert!(rt; first == applied(&mut arena, Op::Eq, a, b)?);
+        assert!(rt; keeps_equation(&mut arena, place, first, a, b)?);
     }
     Ok(())
 }
@@ -176,9 +219,8 @@ fn many_terms(alloc: Global, arena: &mut Arena) -> Result<Vec<Term>, AllocError>
 fn many_terms_are_found_again(rt: HostRuntime) -> Result<(), Fail> {
     let mut arena = Arena::new(rt.alloc())?;
     let made = many_terms(rt.alloc(), &mut arena)?;
-    assert_eq!(rt; arena.len(), 30_000);
+    assert!(rt; arena.len() == 30_000);
     let found = many_terms(rt.alloc(), &mut arena)?;
-    assert_eq!(rt; made == found, true);
-    assert_eq!(rt; arena.len(), 30_000);
+    assert!(rt; made == found && arena.len() == 30_000);
     Ok(())
 }
