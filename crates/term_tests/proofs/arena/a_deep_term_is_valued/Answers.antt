@@ -1,5 +1,5 @@
 use Rattle.std.proofs.Common.{arith}
-use Rattle.term_arena.proofs.ReadableLemmas.{IsReadable, readable-extends}
+use Rattle.term_tests.proofs.ReadableLemmas.{IsReadable, readable-extends}
 use Rattle.term_tests.proofs.arena.a_deep_term_is_valued.Goals as goal
 
 pub loop-init : goal.loop-init

@@ -1,4 +1,4 @@
-use Rattle.term_arena.proofs.ReadableLemmas.{IsReadable}
+use Rattle.term_tests.proofs.ReadableLemmas.{IsReadable}
 use Rattle.term_tests.proofs.arena.a_deep_term_is_valued.Given as goal
 
 abbrev pub invariant-loop : goal.invariant-loop
