@@ -47,62 +47,97 @@ fn and_equal(net: &mut Net, all: Lit, a: Lit, b: Lit) -> Result<Lit, AllocError>
     net.and(all, apart.not())
 }
 
-#[test]
-fn a_byte_that_equals_a_constant(rt: HostRuntime) -> Result<(), Fail> {
-    let mut net = Net::new(rt.alloc())?;
+/// Whether the formulas of a root that may be true have these sizes.
+fn has_sizes(
+    alloc: Global,
+    net: &Net,
+    root: Lit,
+    expected: (usize, usize),
+) -> Result<bool, AllocError>
+    requires belongs { root.name < length net.now }
+{
+    if root == Lit::NO {
+        return Ok(false);
+    }
+    let _net = net.len();
+    Ok(sizes(alloc, net, root)? == expected)
+}
+
+/// Where the first byte of the input is a constant.
+fn byte_is(net: &mut Net, constant: u32) -> Result<Lit, AllocError>
+    requires { 0 < length net.old }
+    ensures { IfOk result (λ l. l.name < length net.new) }
+{
     let mut equal = Lit::YES;
     for bit in 0..8 {
         let first = net.input_bit(0, bit)?;
-        let second = if 0x41 >> bit & 1 == 1 {
+        let second = if constant >> bit & 1 == 1 {
             Lit::YES
         } else {
             Lit::NO
         };
         let _net = net.len();
-        equal = and_equal(&mut net, equal, first, second)?;
+        equal = and_equal(net, equal, first, second)?;
     }
-    assert_eq!(rt; kinds(&net), (7, 0));
-    assert!(rt; equal != Lit::NO);
-    let _net = net.len();
-    assert_eq!(rt; sizes(rt.alloc(), &net, equal)?, (22, 21));
+    Ok(equal)
+}
+
+#[test]
+fn a_byte_that_equals_a_constant(rt: HostRuntime) -> Result<(), Fail> {
+    let mut net = Net::new(rt.alloc())?;
+    let equal = byte_is(&mut net, 0x41)?;
+    assert!(rt; kinds(&net) == (7, 0));
+    assert!(rt; has_sizes(rt.alloc(), &net, equal, (22, 21))?);
     Ok(())
+}
+
+/// Where the first two bytes of the input are equal.
+fn bytes_are_equal(net: &mut Net) -> Result<Lit, AllocError>
+    requires { 0 < length net.old }
+    ensures { IfOk result (λ l. l.name < length net.new) }
+{
+    let mut equal = Lit::YES;
+    for bit in 0..8 {
+        let first = net.input_bit(0, bit)?;
+        let second = net.input_bit(1, bit)?;
+        equal = and_equal(net, equal, first, second)?;
+    }
+    Ok(equal)
 }
 
 #[test]
 fn two_bytes_that_are_equal(rt: HostRuntime) -> Result<(), Fail> {
     let mut net = Net::new(rt.alloc())?;
-    let mut equal = Lit::YES;
-    for bit in 0..8 {
-        let first = net.input_bit(0, bit)?;
-        let second = net.input_bit(1, bit)?;
-        equal = and_equal(&mut net, equal, first, second)?;
-    }
-    assert_eq!(rt; kinds(&net), (7, 8));
-    assert!(rt; equal != Lit::NO);
-    let _net = net.len();
-    assert_eq!(rt; sizes(rt.alloc(), &net, equal)?, (54, 53));
+    let equal = bytes_are_equal(&mut net)?;
+    assert!(rt; kinds(&net) == (7, 8));
+    assert!(rt; has_sizes(rt.alloc(), &net, equal, (54, 53))?);
     Ok(())
 }
 
 #[test]
 fn a_root_that_is_yes_gives_no_clause(rt: HostRuntime) -> Result<(), Fail> {
     let net = Net::new(rt.alloc())?;
-    let _net = net.len();
-    assert_eq!(rt; sizes(rt.alloc(), &net, Lit::YES)?, (0, 0));
+    assert!(rt; has_sizes(rt.alloc(), &net, Lit::YES, (0, 0))?);
     Ok(())
 }
 
-#[test]
-fn a_deep_tree_has_four_clauses_a_gate(rt: HostRuntime) -> Result<(), Fail> {
-    let mut net = Net::new(rt.alloc())?;
+/// A tree of 100,000 gates under each other.
+fn deep_tree(net: &mut Net) -> Result<Lit, AllocError>
+    ensures { IfOk result (λ l. l.name < length net.new) }
+{
     let mut deep = net.input_bit(0, 0)?;
     let second = net.input_bit(1, 0)?;
     for _ in 0..100_000 {
         deep = net.xor(deep, second)?;
     }
-    assert_eq!(rt; net.len(), 100_003);
-    assert!(rt; deep != Lit::NO);
-    let _net = net.len();
-    assert_eq!(rt; sizes(rt.alloc(), &net, deep)?, (400_001, 400_000));
+    Ok(deep)
+}
+
+#[test]
+fn a_deep_tree_has_four_clauses_a_gate(rt: HostRuntime) -> Result<(), Fail> {
+    let mut net = Net::new(rt.alloc())?;
+    let deep = deep_tree(&mut net)?;
+    assert!(rt; net.len() == 100_003);
+    assert!(rt; has_sizes(rt.alloc(), &net, deep, (400_001, 400_000))?);
     Ok(())
 }
