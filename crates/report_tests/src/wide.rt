@@ -1,6 +1,6 @@
 //! Reports of runs in which conditions tie more than two bytes together.
 
-use crate::case::{Case, breakpoint, expect};
+use crate::case::{Case, breakpoint, says};
 use crate::make::{BUDGET, made_of};
 use crate::programs::{
     CHECKSUM, DECIMAL, LOOK_UP, PRODUCT, SUM_OF_FOUR, THREE_TIMES, TWO_TRIPLES_AND_A_BYTE,
@@ -8,8 +8,8 @@ use crate::programs::{
 use crate::tests::meets;
 use report_maker::MakeError;
 use rv_assemble::Region;
+use rv_event::{Trap, TrapKind};
 use std::alloc::Global;
-use std::process::Abort;
 use std::test::Fail;
 use test_programs::words::JOINED_TRIPLE;
 use test_programs::zeros;
@@ -21,12 +21,11 @@ struct Class {
     other: &'static [u8],
 }
 
-/// Asserts that the reports of both inputs say what the case says.
-fn meets_both(rt: &impl Abort, alloc: Global, class: &Class) -> Result<(), Fail> {
-    let mut case = class.case;
-    meets(rt, alloc, &case)?;
-    case.input = class.other;
-    meets(rt, alloc, &case)
+/// Whether the reports of both inputs say what the case says.
+fn meets_both(alloc: Global, class: &Class) -> Result<bool, Fail> {
+    let mut other = class.case;
+    other.input = class.other;
+    Ok(meets(alloc, &class.case)? && meets(alloc, &other)?)
 }
 
 /// More than two bytes are tested together. Two inputs of one class have one report.
@@ -95,7 +94,7 @@ fn wide_groups(rt: HostRuntime) -> Result<(), Fail> {
         },
     ];
     for class in &cases {
-        meets_both(&rt, rt.alloc(), class)?;
+        assert!(rt; meets_both(rt.alloc(), class)?, "{:x}", class.case.trap.pc);
     }
     Ok(())
 }
@@ -171,7 +170,7 @@ fn wide_groups_in_the_order_of_a_seed(rt: HostRuntime) -> Result<(), Fail> {
         },
     ];
     for class in &cases {
-        meets_both(&rt, rt.alloc(), class)?;
+        assert!(rt; meets_both(rt.alloc(), class)?, "{:x}", class.case.trap.pc);
     }
     Ok(())
 }
@@ -258,7 +257,7 @@ fn wide_groups_beside_others(rt: HostRuntime) -> Result<(), Fail> {
         },
     ];
     for class in &cases {
-        meets_both(&rt, rt.alloc(), class)?;
+        assert!(rt; meets_both(rt.alloc(), class)?, "{:x}", class.case.trap.pc);
     }
     Ok(())
 }
@@ -301,7 +300,7 @@ fn a_checksum(rt: HostRuntime) -> Result<(), Fail> {
         ],
     }];
     for class in &cases {
-        meets_both(&rt, rt.alloc(), class)?;
+        assert!(rt; meets_both(rt.alloc(), class)?, "{:x}", class.case.trap.pc);
     }
     Ok(())
 }
@@ -322,50 +321,75 @@ fn spent(
     }
 }
 
-/// Three bytes are joined by tests of two at a time.
+/// Three bytes that are joined by tests of two at a time.
+const JOINED: Case = Case {
+    words: &JOINED_TRIPLE,
+    input: &[1, 0, 1],
+    seed: 0,
+    trap: Trap {
+        kind: TrapKind::Breakpoint,
+        pc: 0x1_005c,
+        value: 0,
+    },
+    steps: 24,
+    first: &[1, 0, 1],
+    sets: &[(0, 1, 255, 1), (2, 1, 255, 1)],
+    revealed: 2,
+    groups: 1,
+    conflicts: 1,
+};
+
+/// Whether the report of three joined bytes is theirs, and a budget of one is spent, but not one of two.
+fn is_joined(alloc: Global, input: &[u8]) -> Result<bool, Fail> {
+    let regions = [zeros(alloc, 0x2_0000, 3, 6)];
+    let made = made_of(alloc, &JOINED_TRIPLE, &regions, input, 0, BUDGET)??;
+    Ok(
+        says(&made, &JOINED)
+            && spent(alloc, &JOINED_TRIPLE, &regions, input, 0, 1)? == Some((0, 3))
+            && spent(alloc, &JOINED_TRIPLE, &regions, input, 0, 2)? == None,
+    )
+}
+
 #[test]
 fn three_bytes_joined(rt: HostRuntime) -> Result<(), Fail> {
-    let alloc = rt.alloc();
-    let regions = [zeros(alloc, 0x2_0000, 3, 6)];
-    let joined = Case {
-        words: &JOINED_TRIPLE,
-        input: &[1, 0, 1],
-        seed: 0,
-        trap: breakpoint(0x1_005c),
-        steps: 24,
-        first: &[1, 0, 1],
-        sets: &[(0, 1, 255, 1), (2, 1, 255, 1)],
-        revealed: 2,
-        groups: 1,
-        conflicts: 1,
-    };
     for input in [[0xff, 0xff, 0xff], [1, 0, 1], [0xfd, 0xfe, 3]] {
-        let made = made_of(alloc, &JOINED_TRIPLE, &regions, &input, 0, BUDGET)??;
-        expect(&rt, &made, &joined);
-        assert_eq!(rt;
-            spent(alloc, &JOINED_TRIPLE, &regions, &input, 0, 1)?,
-            Some((0, 3))
-        );
-        assert_eq!(rt; spent(alloc, &JOINED_TRIPLE, &regions, &input, 0, 2)?, None);
+        assert!(rt; is_joined(rt.alloc(), &input)?);
     }
     Ok(())
 }
 
+/// A program, an input, a seed and a budget, and the group whose search spends it.
+const BUDGETS: [(&[u32], &[u8], u64, u32, Option<(u32, u32)>); 8] = [
+    (&SUM_OF_FOUR, b"dd22", 0, 1, Some((0, 4))),
+    (&SUM_OF_FOUR, b"dd22", 0, 14, Some((0, 4))),
+    (&SUM_OF_FOUR, b"dd22", 0, 15, None),
+    (&SUM_OF_FOUR, b"KKKK", 0, 1, Some((0, 4))),
+    (&SUM_OF_FOUR, b"KKKK", 0, 14, Some((0, 4))),
+    (&SUM_OF_FOUR, b"KKKK", 0, 15, None),
+    (
+        &TWO_TRIPLES_AND_A_BYTE,
+        &[50, 1, 20, 2, 30, 200, 9],
+        1,
+        666,
+        Some((0, 3)),
+    ),
+    (
+        &TWO_TRIPLES_AND_A_BYTE,
+        &[50, 1, 20, 2, 30, 200, 9],
+        1,
+        667,
+        None,
+    ),
+];
+
 /// A budget is spent where as many conflicts are met. It is each group's own.
 #[test]
 fn budgets(rt: HostRuntime) -> Result<(), Fail> {
-    let alloc = rt.alloc();
-    for input in [b"dd22", b"KKKK"] {
-        assert_eq!(rt; spent(alloc, &SUM_OF_FOUR, &[], input, 0, 1)?, Some((0, 4)));
-        assert_eq!(rt;
-            spent(alloc, &SUM_OF_FOUR, &[], input, 0, 14)?,
-            Some((0, 4))
+    for (words, input, seed, budget, group) in BUDGETS {
+        assert!(rt;
+            spent(rt.alloc(), words, &[], input, seed, budget)? == group,
+            "{budget}"
         );
-        assert_eq!(rt; spent(alloc, &SUM_OF_FOUR, &[], input, 0, 15)?, None);
     }
-    let input = [50, 1, 20, 2, 30, 200, 9];
-    let words = &TWO_TRIPLES_AND_A_BYTE;
-    assert_eq!(rt; spent(alloc, words, &[], &input, 1, 666)?, Some((0, 3)));
-    assert_eq!(rt; spent(alloc, words, &[], &input, 1, 667)?, None);
     Ok(())
 }
