@@ -1,6 +1,7 @@
 //! Whole calls over files and sinks in memory. The digests are those of `sha256sum`.
 
 mod demo;
+mod hostile;
 mod order;
 mod receiver;
 mod reports;
