@@ -1,6 +1,6 @@
 //! Clauses of a closer.
 
-ghost use Rattle.std.specs.Prelude.{◌≡◌, ◌<◌};
+ghost use Rattle.std.specs.Prelude.{◌≡◌, ◌<◌, true};
 
 use gate_net::{ClauseList, Formula, Lit};
 use no_memory::NoMemory;
