@@ -3,4 +3,3 @@ pub mod LeafLemmas
 pub mod GatherLemmas
 pub mod DealLemmas
 pub mod FinalLemmas
-pub mod TestLemmas

@@ -95,6 +95,3 @@ pub fn groups(alloc: Global, arena: &Arena, conditions: &[Term]) -> Result<Group
     let items = divide(alloc, arena, conditions, &terms)?;
     Ok(GroupList::from_vec(items))
 }
-
-#[cfg(test)]
-mod tests;

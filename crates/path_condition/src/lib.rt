@@ -7,8 +7,6 @@
 
 mod forms;
 mod list;
-#[cfg(test)]
-mod tests;
 
 pub use forms::byte_term;
 pub use list::Conditions;

@@ -24,6 +24,3 @@ pub use lists::Bytes;
 pub use reader::read_report;
 pub use report::Report;
 pub use text::{format_trap, format_word, write_report};
-
-#[cfg(test)]
-mod tests;

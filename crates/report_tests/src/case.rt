@@ -5,7 +5,6 @@ use report_format::{read_report, write_report};
 use report_maker::Made;
 use rv_event::{Trap, TrapKind};
 use std::alloc::Global;
-use std::process::Abort;
 use std::test::Fail;
 
 /// The place of a byte, the lowest and the highest of its values, and the bits that all its values share.
@@ -32,14 +31,12 @@ pub(crate) struct Case {
     pub conflicts: u64,
 }
 
-/// The trap of an EBREAK.
-pub(crate) fn breakpoint(pc: u32) -> Trap {
-    Trap {
-        kind: TrapKind::Breakpoint,
-        pc,
-        value: 0,
-    }
-}
+/// The trap of an EBREAK at address 0.
+pub(crate) const AN_EBREAK: Trap = Trap {
+    kind: TrapKind::Breakpoint,
+    pc: 0,
+    value: 0,
+};
 
 /// Whether a set has just the values from the lowest to the highest that share bits with the lowest.
 pub(crate) fn has_values(set: &ByteSet, lowest: u32, highest: u32, shared: u32) -> bool {
@@ -68,38 +65,30 @@ fn are_sets(sets: &[ByteSet], values: &[Values]) -> bool {
     true
 }
 
-/// Asserts that the sets can be written, and reveal so many bits.
-pub(crate) fn expect_revealed(rt: &impl Abort, sets: &[ByteSet], bits: u32) {
-    assert!(rt; sets.len() <= 65_536);
-    assert!(rt; sets.iter().all(|set| set.size() > 0));
-    assert_eq!(rt; revealed(sets), bits);
+/// Whether the sets can be written, and reveal so many bits.
+pub(crate) fn reveals(sets: &[ByteSet], bits: u32) -> bool {
+    sets.len() <= 65_536 && sets.iter().all(|set| set.size() > 0) && revealed(sets) == bits
 }
 
-/// Asserts that a report says what the case says.
-pub(crate) fn expect(rt: &impl Abort, made: &Made, case: &Case) {
+/// Whether a report says what the case says.
+pub(crate) fn says(made: &Made, case: &Case) -> bool {
     let report = &made.report;
-    assert_eq!(rt; report.trap, case.trap);
-    assert_eq!(rt; report.steps, case.steps);
-    assert_eq!(rt; report.seed, case.seed);
-    assert_eq!(rt; report.input.as_slice(), case.first);
-    assert_eq!(rt; report.sets.as_slice().len(), case.first.len());
-    assert!(rt; are_sets(report.sets.as_slice(), case.sets));
-    expect_revealed(rt, report.sets.as_slice(), case.revealed);
-    assert_eq!(rt; made.groups, case.groups);
-    assert_eq!(rt; made.conflicts, case.conflicts);
+    let sets = report.sets.as_slice();
+    report.trap == case.trap
+        && report.steps == case.steps
+        && report.seed == case.seed
+        && report.input.as_slice() == case.first
+        && sets.len() == case.first.len()
+        && are_sets(sets, case.sets)
+        && reveals(sets, case.revealed)
+        && made.groups == case.groups
+        && made.conflicts == case.conflicts
 }
 
-/// Asserts that a report has this text, and is read from it.
-pub(crate) fn expect_text(
-    rt: &impl Abort,
-    alloc: Global,
-    made: &Made,
-    text: &[u8],
-) -> Result<(), Fail> {
+/// Whether a report has this text, and is read from it.
+pub(crate) fn has_text(alloc: Global, made: &Made, text: &[u8]) -> Result<bool, Fail> {
     let written = write_report(alloc, &made.report)?;
-    assert_eq!(rt; written.as_slice(), text);
     let read = read_report(alloc, text)?;
     let again = write_report(alloc, &read)?;
-    assert_eq!(rt; again.as_slice(), text);
-    Ok(())
+    Ok(written.as_slice() == text && again.as_slice() == text)
 }

@@ -10,4 +10,6 @@ mod programs;
 #[cfg(test)]
 mod tests;
 #[cfg(test)]
+mod texts;
+#[cfg(test)]
 mod wide;

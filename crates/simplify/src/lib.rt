@@ -23,8 +23,6 @@ mod ordering;
 mod reading;
 mod rules;
 mod steps;
-#[cfg(test)]
-mod tests;
 mod written;
 
 use no_memory::NoMemory;

@@ -4,7 +4,6 @@ pub mod EntryLemmas
 pub mod SharedLemmas
 pub mod ZeroLemmas
 pub mod WalkLemmas
-pub mod ReadableLemmas
 pub mod ItemLemmas
 pub mod ChunkLemmas
 pub mod ListLemmas

@@ -1,0 +1,5 @@
+use Rattle.std.proofs.Common.{◌≡◌}
+use Rattle.search_tests.proofs.tests.closures.random.agrees_on_one.Given as goal
+
+abbrev pub invariant-loop : goal.invariant-loop
+invariant-loop l = l.closer.names ≡ 16

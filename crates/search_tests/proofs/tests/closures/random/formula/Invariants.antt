@@ -1,0 +1,11 @@
+use Rattle.std.proofs.Common.{◌<◌, length, List}
+use Rattle.std.specs.Prelude.{All}
+use Rattle.gate_net.specs.declared.literals.Lit.{Lit}
+use Rattle.gate_net.specs.Lits.{AreNamed}
+use Rattle.search_tests.proofs.tests.closures.random.formula.Given as goal
+
+abbrev pub invariant-loop : goal.invariant-loop
+invariant-loop l = record {
+  named : All (AreNamed 16) l.clauses.items;
+  filled : All (λ (c : List Lit). 0 < length c) l.clauses.items;
+}

@@ -1,0 +1,5 @@
+//! Nets, formulas, closures and searches as a caller makes them.
+#![tactic(auto)]
+
+#[cfg(test)]
+mod tests;
