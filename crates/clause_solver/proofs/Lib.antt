@@ -3,4 +3,3 @@ pub mod ReachedLemmas
 pub mod TrimLemmas
 pub mod LoopLemmas
 pub mod SolveLemmas
-pub mod OrderLemmas

@@ -1,8 +1,8 @@
 -- Trimming by halves.
 use Rattle.std.proofs.Common.{◌≡◌, ℕ, ◌+◌, ◌-◌, ◌<◌, ◌≤◌, Bool, true, false, List, [], ◌∷◌, ◌++◌, sym, inl, inr, ◌∙◌, ap, arith, length, take, drop, get_or, subst, drop-cons, add-one}
 use Rattle.std.specs.Prelude.{Contains, Result, Ok, Err, IfOk}
-use Rattle.std.proofs.lemmas.List.{take_more, drop_all, drop-drop, take-append-drop, take-take, length-take, length-drop, take_all}
-use Rattle.std.proofs.Math.Seq.{take-add, take-append_seam}
+use Rattle.std.proofs.lemmas.List.{take_more, drop_all, drop-drop, take-append-drop, length-drop, take_all}
+use Rattle.std.proofs.Math.Seq.{take-add}
 use Rattle.std.proofs.lemmas.List.Elements.{All-append, All-drop, All-take, Contains-append_left, Contains-append_right, Contains-append_cases}
 use Rattle.gate_net.specs.declared.literals.Lit.{Lit}
 use Rattle.gate_net.specs.Lits.{AreNamed}
@@ -80,14 +80,6 @@ pub left_base : (base old new end : List Lit) → take (length old) new ≡ old 
 left_base base old new end front same =
     subst (λ (xs : List Lit). HaveSame (base ++ drop (length old) new) (xs ++ end)) (left_is old new front)
     (same_left base old end (drop (length old) new) same)
-
-pub left_more : (a b c : List Lit) → take (length a) b ≡ a → take (length b) c ≡ b → take (length a) c ≡ a
-left_more a b c first second =
-    let few : length a ≤ length b = let size : length (take (length a) b) ≡ length a = ap length first in omega (arith, rw length-take at size) in
-    sym (take-take (length a) (length b) c few) ∙ ap (take (length a)) second ∙ first
-
-pub left_push : (left : List Lit) (d : Lit) → take (length left) (left ++ d ∷ []) ≡ left
-left_push left d = take-append_seam left (d ∷ [])
 
 pub part_named : (names : ℕ) (base decisions : List Lit) (n k : ℕ) → AreNamed names base → AreNamed names decisions → AreNamed names (base ++ take n (drop k decisions))
 part_named names base decisions n k in_base in_all =

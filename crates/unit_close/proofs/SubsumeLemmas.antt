@@ -1,7 +1,7 @@
 -- Clauses that stand for learned ones.
 use Rattle.std.proofs.Common.{◌≡◌, ◌≢◌, ℕ, suc, ◌+◌, ◌<◌, ◌≤◌, Bool, true, false, List, [], ◌∷◌, ◌++◌, length, take, drop, take-append-drop, drop-cons, add-one, refl, sym, ap, ◌∙◌, inl, inr, arith, ◌⊎◌, subst}
 use Rattle.std.specs.Prelude.{Contains, Option, Some, slice_get}
-use Rattle.std.proofs.lemmas.List.{drop-append-le, take-append-le, take_more, drop_all, take_all, length_push, length-take-le, take-take}
+use Rattle.std.proofs.lemmas.List.{drop-append-le, take-append-le, take_more, drop_all, length_push, length-take-le, take-take}
 use Rattle.std.proofs.lemmas.List.Elements.{Contains-append_left, Contains-append_right, Contains-append_cases, Contains-push, Contains-push_cases, Contains-get_or}
 use Rattle.std.proofs.lemmas.Option.{get_or_from_slice_get, slice_get_within}
 use Rattle.gate_net.specs.declared.literals.Lit.{Lit}

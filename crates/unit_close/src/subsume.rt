@@ -1,7 +1,7 @@
 //! Watches without the learned clauses of which others are parts. Where such a clause forces a literal, its part forces
 //! the same one, or is itself a conflict.
 
-ghost use Rattle.std.specs.Prelude.{◌≡◌, ◌<◌, ◌≤◌, ◌+◌, ◌++◌, ◌∷◌, [], List, length, take, drop, true, IfOk, IfErr, Contains};
+ghost use Rattle.std.specs.Prelude.{◌≡◌, ◌<◌, ◌≤◌, ◌+◌, ◌++◌, ◌∷◌, [], List, length, take, drop, true, false, IfOk, IfErr, Contains};
 ghost use Rattle.gate_net.specs.declared.literals.Lit.{Lit};
 ghost use Rattle.gate_net.specs.Lits.{AreNamed};
 ghost use Rattle.unit_close.specs.Subsumed.{Subsumes, AreSubsuming, StandFor};
@@ -16,7 +16,8 @@ const FEW: usize = 64;
 
 /// Whether the clause has the literal.
 fn has_literal(clause: &[Lit], l: Lit) -> bool
-    ensures { result ≡ true → Contains clause.now l }
+    ensures yes { result ≡ true → Contains clause.now l }
+    ensures no { result ≡ false → Contains clause.now l → ⊥ }
 {
     for m in clause {
         if *m == l {
@@ -29,9 +30,10 @@ fn has_literal(clause: &[Lit], l: Lit) -> bool
 /// Whether the part has a literal, and the clause has each of the part's. Learned clauses mostly differ in their last
 /// literals.
 fn subsumes(part: &[Lit], clause: &[Lit]) -> bool
-    ensures { result ≡ true → Subsumes part.now clause.now }
+    ensures yes { result ≡ true → Subsumes part.now clause.now }
+    ensures no { result ≡ false → Subsumes part.now clause.now → ⊥ }
 {
-    if part.is_empty() || part.len() > clause.len() {
+    if part.is_empty() {
         return false;
     }
     for i in (0..part.len()).rev() {
@@ -42,7 +44,8 @@ fn subsumes(part: &[Lit], clause: &[Lit]) -> bool
     true
 }
 
-/// A bit for each literal's name. A clause has all bits of its parts.
+/// A bit for each literal's name. A clause has all bits of its parts. This needs no contract: wrong bits only leave a
+/// clause in the watches, or ask in vain whether it is subsumed.
 fn signature(clause: &[Lit]) -> u64 {
     let mut bits = 0;
     for l in clause {
@@ -51,7 +54,8 @@ fn signature(clause: &[Lit]) -> u64 {
     bits
 }
 
-/// Whether one of the clauses after the first ones, with these signatures, is a part of the clause.
+/// Whether one of the clauses after the first ones, with these signatures, is a part of the clause. The contract has one
+/// direction: a clause that is left out has to be implied by one that stays, and one that stays in vain costs only time.
 fn is_subsumed(watches: &Watches, given: usize, signatures: &[u64], clause: &[Lit]) -> bool
     requires { given + length signatures.now ≡ length watches.now.clauses }
     ensures { result ≡ true → AreSubsuming watches.now.clauses clause.now }
@@ -130,7 +134,8 @@ pub fn add_learned(
     Ok(())
 }
 
-/// How many clauses are watched before they are looked through again, where so many learned ones are left.
+/// How many clauses are watched before they are looked through again, where so many learned ones are left. This needs no
+/// contract: any number is right, and settles only how often that is done.
 pub fn next_limit(given: usize, left: usize) -> usize {
     given
         .saturating_add(left)

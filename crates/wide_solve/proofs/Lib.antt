@@ -6,5 +6,4 @@ pub mod OrderLemmas
 pub mod RootLemmas
 pub mod SearchLemmas
 pub mod SetLemmas
-pub mod TestLemmas
 pub mod ValueLemmas

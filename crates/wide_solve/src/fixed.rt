@@ -67,7 +67,8 @@ fn forces(closer: &mut Closer, roots: &[Lit], bits: &[Lit]) -> bool
 fn joined(alloc: Global, first: &[Lit], second: &[Lit]) -> Result<Vec<Lit>, NoMemory>
     ensures { IfOk result (λ all. all.items ≡ first.now ++ second.now) }
 {
-    let mut all = first.to_vec(alloc)?;
+    let mut all = Vec::with_capacity(alloc, first.len().saturating_add(second.len()))?;
+    all.extend_from_slice(first)?;
     all.extend_from_slice(second)?;
     Ok(all)
 }

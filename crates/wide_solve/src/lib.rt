@@ -22,8 +22,6 @@ mod group;
 mod order;
 mod search;
 mod sets;
-#[cfg(test)]
-mod tests;
 mod values;
 
 use byte_sets::Sets;

@@ -1,5 +1,0 @@
-use Rattle.gate_net.specs.Lits.{AreNamed}
-use Rattle.unit_close.proofs.tests.Sequence.literals.Given as goal
-
-abbrev pub invariant-loop : goal.invariant-loop
-invariant-loop l = AreNamed 16 l.literals.items
