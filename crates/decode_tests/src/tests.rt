@@ -5,6 +5,7 @@ use crate::words::{
     ATOMIC, AUIPC, BRANCHES, COMPRESSED, FENCES, FLOATING, IMMEDIATES, JAL, JALR, LOADS, LUI,
     OTHER, REGISTERS, STORES, SYSTEM,
 };
+use decode_cache::DecodeCache;
 use rv_decode::{Instr, decode, encode};
 use rv_word::{AluOp, alu, byte_of};
 
@@ -132,4 +133,18 @@ fn illegal_words(rt: HostRuntime) {
     assert_eq!(rt; legal(&ATOMIC), 0);
     assert_eq!(rt; legal(&SYSTEM), 0);
     assert_eq!(rt; legal(&OTHER), 0);
+}
+
+#[test]
+fn words_decoded_before(rt: HostRuntime) {
+    let mut cache = DecodeCache::new();
+    for (address, word, expected) in [
+        (0x10000, 0x0010_0073, Some(Instr::Ebreak)),
+        (0x10000, 0x0010_0073, Some(Instr::Ebreak)),
+        (0x10000, 0x0000_0073, Some(Instr::Ecall)),
+        (0x10004, 0, None),
+        (0x10000, 0x0000_0073, Some(Instr::Ecall)),
+    ] {
+        assert!(rt; cache.decode(address, word) == expected, "{word:08x}");
+    }
 }

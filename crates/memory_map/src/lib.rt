@@ -10,8 +10,6 @@ mod heap;
 mod memory;
 mod parts;
 mod region;
-#[cfg(test)]
-mod tests;
 
 pub use heap::Heap;
 pub use memory::Memory;

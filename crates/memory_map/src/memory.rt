@@ -57,6 +57,7 @@ impl Memory {
     }
 
     /// The bytes from an address to the end of its region, where they have a right. Else none.
+    #[inline(always)]
     fn run(&self, right: u32, address: u32) -> &[u8]
         ensures { IsRun right self.now.map address result.now }
     {
@@ -140,6 +141,7 @@ impl Memory {
     }
 
     /// The half word at an address, byte by byte.
+    #[inline(never)]
     fn half_by_bytes(&self, address: u32) -> Result<u16, u32>
         ensures { result ≡ ok_unless (first_without read self.now.map address 2) (half_at self.now.map address) }
     {
@@ -162,6 +164,7 @@ impl Memory {
     }
 
     /// The little-endian word at an address, where its four bytes may be executed. Else nothing.
+    #[inline(always)]
     pub fn fetch(&self, address: u32) -> Option<u32>
         ensures { result ≡ fetched self.now.map address }
     {
@@ -169,6 +172,7 @@ impl Memory {
     }
 
     /// The word at an address, where its four bytes have a right. Else the first address that lacks it.
+    #[inline(always)]
     fn word(&self, right: u32, address: u32) -> Result<u32, u32>
         ensures { result ≡ ok_unless (first_without right self.now.map address 4) (word_at self.now.map address) }
     {
@@ -179,6 +183,7 @@ impl Memory {
     }
 
     /// The word at an address, byte by byte.
+    #[inline(never)]
     fn word_by_bytes(&self, right: u32, address: u32) -> Result<u32, u32>
         ensures { result ≡ ok_unless (first_without right self.now.map address 4) (word_at self.now.map address) }
     {

@@ -10,8 +10,9 @@ ghost use Rattle.memory_map.specs.Layout.{IsHeldAt, IsPartAt, IsLaidOut, HasHeap
 
 use crate::region::Region;
 
-/// The place of the region that holds an address.
-fn place_of(regions: &[Region], address: u32) -> Option<usize>
+/// The place of the region that holds an address, found by its base.
+#[inline(never)]
+fn searched_place(regions: &[Region], address: u32) -> Option<usize>
     requires { AllPairs (λ p q. end_of p ≤ q.base) regions.now }
     ensures some { IfSome result (IsHeldAt regions.now address) }
     ensures none { IfNone result (first_cell regions.now address ≡ None) }
@@ -26,6 +27,20 @@ fn place_of(regions: &[Region], address: u32) -> Option<usize>
     } else {
         None
     }
+}
+
+/// The place of the region that holds an address. The first region, which has the code of most programs,
+/// is tried before a search.
+#[inline(always)]
+fn place_of(regions: &[Region], address: u32) -> Option<usize>
+    requires { AllPairs (λ p q. end_of p ≤ q.base) regions.now }
+    ensures some { IfSome result (IsHeldAt regions.now address) }
+    ensures none { IfNone result (first_cell regions.now address ≡ None) }
+{
+    if !regions.is_empty() && regions[0].contains(address) {
+        return Some(0);
+    }
+    searched_place(regions, address)
 }
 
 /// The region that holds an address: the stack, or one of the others.

@@ -1,4 +1,7 @@
 //! The machine and its step.
+//!
+//! What stands on a step's way is inlined, so that a loop that looks at a part of the event alone doesn't
+//! make the rest.
 
 ghost use Rattle.std.specs.Prelude.{◌≡◌, ℕ, ◌+◌, ◌-◌, ◌<◌, ◌≤◌, ◌%◌, ◌^◌, false, length, min, IfOk, List, [], ◌∷◌};
 ghost use Rattle.memory_map.specs.Cells.{first_without};
@@ -12,10 +15,11 @@ ghost use Rattle.rv_machine.specs.Progress.{Follows, EndsRun};
 ghost use Rattle.rv_machine.specs.Plain.{IsPlain};
 
 use crate::access::{bits, loaded, size_of};
+use decode_cache::DecodeCache;
 use elf32::Image;
 use memory_map::Memory;
 use no_memory::NoMemory;
-use rv_decode::{Cond, Instr, Width, decode};
+use rv_decode::{Cond, Instr, Width};
 use rv_event::{End, Event, EventKind, Trap, TrapKind};
 use rv_word::alu;
 use std::alloc::Global;
@@ -49,6 +53,7 @@ pub struct Machine {
     /// How many bytes of the input have been read.
     place: u32,
     over: bool,
+    decoded: DecodeCache,
 }
 
 impl Model for Machine {
@@ -102,6 +107,7 @@ impl Machine {
             memory,
             place: 0,
             over: false,
+            decoded: DecodeCache::new(),
         })
     }
 
@@ -154,6 +160,7 @@ impl Machine {
     }
 
     /// Writes a register and goes to the next instruction.
+    #[inline(always)]
     fn finish(&mut self, register: u8, value: u32) -> Option<End>
         requires { register < 32 }
         ensures { Follows self.old (goes_on self.old.state register value) result self.new }
@@ -191,6 +198,7 @@ impl Machine {
 
     /// Goes to a target, which has to be a multiple of 4, and writes a register. A branch writes none,
     /// which is to write x0.
+    #[inline(always)]
     fn jump(&mut self, target: u32, register: u8, value: u32) -> Option<End>
         requires { register < 32 }
         ensures { Follows self.old (jump self.old.state.pc target (write_reg register value self.old.state)) result self.new }
@@ -204,6 +212,7 @@ impl Machine {
     }
 
     /// The event of a step that is no call.
+    #[inline(always)]
     fn event(&self, word: u32, addr: u32, kind: EventKind) -> Event
         ensures { result ≡ event_of self.now.state word addr no_call kind }
     {
@@ -217,6 +226,7 @@ impl Machine {
     }
 
     /// The event of a call.
+    #[inline(never)]
     fn call_event(&self, word: u32) -> Event
         ensures { result
             ≡ event_of self.now.state word 0 (reg self.now.state 17 ∷ reg self.now.state 10 ∷ reg self.now.state 11
@@ -344,6 +354,7 @@ impl Machine {
 
     /// The call that a7 names.
     #[tactic(auto, unfolding(crate::specs::Calls::reply_to))]
+    #[inline(never)]
     fn call(&mut self, input: &[u8]) -> Option<End>
         requires place { self.old.state.place ≤ length input.now }
         requires size { length input.now ≤ 65536 }
@@ -362,6 +373,7 @@ impl Machine {
 
     /// An instruction that touches neither memory nor the input.
     #[tactic(auto, unfolding(crate::specs::Effects::effect))]
+    #[inline(always)]
     fn plain(&mut self, word: u32, i: Instr) -> Option<End>
         requires well_formed { IsWellFormed i }
         requires plain { IsPlain i }
@@ -401,6 +413,7 @@ impl Machine {
 
     /// Executes an instruction.
     #[tactic(auto, unfolding(crate::specs::Effects::effect))]
+    #[inline(always)]
     fn execute(&mut self, input: &[u8], word: u32, i: Instr) -> Stepped
         requires well_formed { IsWellFormed i }
         requires place { self.old.state.place ≤ length input.now }
@@ -454,6 +467,7 @@ impl Machine {
 
     /// One event: an instruction, or a failed fetch.
     #[tactic(auto, unfolding(crate::specs::Effects::step))]
+    #[inline(always)]
     fn take_step(&mut self, input: &[u8]) -> Stepped
         requires place { self.old.state.place ≤ length input.now }
         requires size { length input.now ≤ 65536 }
@@ -467,7 +481,7 @@ impl Machine {
                 end: self.trap(TrapKind::FetchFault, self.pc),
             };
         };
-        let Some(i) = decode(word) else {
+        let Some(i) = self.decoded.decode(self.pc, word) else {
             let event = self.event(word, 0, EventKind::Plain);
             return Stepped {
                 event,
@@ -479,6 +493,7 @@ impl Machine {
 
     /// One event of a run that is not over, on an input of at most 65,536 bytes, of which no more has been
     /// read than it has. After a trap or an exit the run is over. The end is never `Limit`.
+    #[inline(always)]
     pub fn step(&mut self, input: &[u8]) -> Stepped
         requires running { self.old.over ≡ false }
         requires place { self.old.state.place ≤ length input.now }
