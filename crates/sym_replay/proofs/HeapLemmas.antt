@@ -10,8 +10,8 @@ use Rattle.memory_map.specs.Heaps.{heap_cell, may_break, with_break, after_break
 use Rattle.memory_map.proofs.Heaps.{get-with_break}
 use Rattle.term_model.specs.Tree.{Tree, Const}
 use Rattle.sym_replay.specs.declared.state.ReplayState.{ReplayState}
-use Rattle.sym_replay.specs.States.{byte_tree, IsState}
-use Rattle.sym_replay.proofs.StateLemmas.{at_key, replaced, fewer_terms}
+use Rattle.sym_replay.specs.States.{byte_tree, HoldsBytes, IsState}
+use Rattle.sym_replay.proofs.StateLemmas.{at_key, replaced, fewer_terms, one_of}
 
 -- ---- terms that are taken away
 
@@ -61,6 +61,10 @@ moved_cell false false o = refl
 
 moved_byte : (m : Map) (b a q : ℕ) → byte_at (with_break m b a) q ≡ cond (is_in_span b (a - b) q || is_in_span a (b - a) q) 0 (byte_at m q)
 moved_byte m b a q = ap byte_of_cell (get-with_break m b a q) ∙ moved_cell (is_in_span b (a - b) q) (is_in_span a (b - a) q) (finmap.get m q)
+
+-- memory holds bytes after it has
+pub moved_held : (m : Map) (b a : ℕ) → HoldsBytes m → HoldsBytes (with_break m b a)
+moved_held m b a held q = one_of (is_in_span b (a - b) q || is_in_span a (b - a) q) 0 (byte_at m q) _ (omega arith) (held q) (moved_byte m b a q)
 
 -- the tree at an address after the break has moved
 pub swept : (trees : List Tree) (m : Map) (h : Heap) (a lo hi q : ℕ) (o n : Option ℕ) → lo ≡ min h.brk a → hi ≡ max h.brk a → n ≡ cleared lo hi q o → byte_tree trees (with_break m h.brk a) q n ≡ (if is_in_span h.brk (a - h.brk) q || is_in_span a (h.brk - a) q then Const 0 else byte_tree trees m q o)

@@ -1,28 +1,31 @@
 -- States of the replay.
-use Rattle.std.proofs.Common.{◌≡◌, ℕ, zero, suc, ◌<◌, ◌≤◌, ◌^◌, List, [], ◌∷◌, set, replicate, min, max, All, Option, Some, None, Bool, true, false, cond, refl, sym, ap, ◌∙◌, arith, subst, ◌==◌, if◌then◌else◌}
+use Rattle.std.proofs.Common.{◌≡◌, Fits, w8, get_or, ℕ, zero, suc, ◌+◌, ◌<◌, ◌≤◌, ◌^◌, List, [], ◌∷◌, set, replicate, min, max, All, Option, Some, None, Bool, true, false, cond, refl, sym, ap, ◌∙◌, arith, subst, ◌==◌, if◌then◌else◌}
 use Rattle.std.specs.Ordering.{nat_cmp}
 use Rattle.std.specs.BTreeMap.{BTreeMap, get, Updates, is_at}
 use Rattle.std.proofs.lemmas.Bool.{eqb-true}
 use Rattle.std.proofs.lemmas.Grind.{common_steps}
-use Rattle.std.proofs.lemmas.List.{map-set}
+use Rattle.std.proofs.lemmas.List.{map-set, get_or_default}
 use Rattle.term_model.specs.Tree.{Tree, Const, Input}
 use Rattle.term_arena.specs.Trees.{Extends}
 use Rattle.std.specs.FinMap as finmap
-use Rattle.memory_map.specs.Cells.{Map, byte_at, can, write, with_byte, next_address}
+use Rattle.elf32.specs.declared.segments.Segment.{Segment}
+use Rattle.memory_map.specs.Cells.{Map, Cell, byte_at, byte_of_cell, can, write, execute, all_can, word_at, fetched, with_byte, next_address, start_map}
 use Rattle.memory_map.specs.Heaps.{Space}
+use Rattle.rv_machine.specs.State.{start}
+use Rattle.machine_laws.specs.Kept as kept
 use Rattle.replay_law.specs.Terms.{SymbolicState, with_tree, put_trees, input_terms}
 use Rattle.sym_replay.specs.declared.state.ReplayState.{ReplayState}
 use Rattle.sym_replay.specs.declared.value.Value.{Value}
 use Rattle.sym_replay.specs.declared.value.Value.TheVariants.{Known, Term}
 use Rattle.sym_replay.specs.Cells.{without_bytes}
 use Rattle.sym_replay.specs.Values.{value_tree, IsTermIn, IsValueOf}
-use Rattle.sym_replay.specs.States.{byte_tree, value_trees, terms_of, AreWithin, IsState}
+use Rattle.sym_replay.specs.States.{byte_tree, value_trees, terms_of, AreWithin, HoldsBytes, IsKnownWord, IsState}
 use Rattle.sym_replay.proofs.CellLemmas.{stored_bare, stored_byte}
 use Rattle.sym_replay.proofs.ValueLemmas.{grown_term, grown_value, grown_values}
 
 -- a state of an arena that has grown
 pub grown_state : (old new : List Tree) (s : ReplayState) → Extends old new → IsState old s → IsState new s
-grown_state old new s g h = record { registers = λ k d lt. grown_value old new g _ (h.registers k d lt); count = h.count; bytes = λ a t e. grown_term old new g t (h.bytes a t e); within = h.within }
+grown_state old new s g h = record { registers = λ k d lt. grown_value old new g _ (h.registers k d lt); count = h.count; bytes = λ a t e. grown_term old new g t (h.bytes a t e); within = h.within; held = h.held }
 
 -- it stands for the same terms
 pub grown_terms : (old new : List Tree) (s : ReplayState) → Extends old new → IsState old s → terms_of new s ≡ terms_of old s
@@ -58,6 +61,7 @@ put_state trees s new address t lowest highest h here updates low high = record 
   count = h.count;
   bytes = λ a u e. by_test (is_at (nat_cmp address) a) a u (sym (updates.0 a) ∙ e);
   within = λ a u e. in_range (is_at (nat_cmp address) a) a u refl (sym (updates.0 a) ∙ e);
+  held = h.held;
 }
   where
     by_test : (b : Bool) (a u : ℕ) → cond b (Some t) (get nat_cmp s.bytes a) ≡ Some u → IsTermIn trees u
@@ -90,6 +94,7 @@ fewer_terms trees s new gone h left = record {
   count = h.count;
   bytes = λ a t e. h.bytes a t (still a t e);
   within = λ a t e. h.within a t (still a t e);
+  held = h.held;
 }
   where
     by_test : (b : Bool) (a t : ℕ) → cond b None (get nat_cmp s.bytes a) ≡ Some t → get nat_cmp s.bytes a ≡ Some t
@@ -99,9 +104,54 @@ fewer_terms trees s new gone h left = record {
     still : (a t : ℕ) → get nat_cmp new a ≡ Some t → get nat_cmp s.bytes a ≡ Some t
     still a t e = by_test (gone a) a t (sym (left a) ∙ e)
 
+-- ---- bytes of memory
+
+-- the numbers of a slice of bytes
+pub all_bytes : (xs : List ℕ) → ((i : ℕ) → Fits w8 (get_or xs i 0)) → All (λ b. b < 256) xs
+all_bytes xs fits k d l = let f : Fits w8 (get_or xs k 0) = fits k in let e : get_or xs k d ≡ get_or xs k 0 = get_or_default xs k d 0 l in omega arith
+
+-- one of two bytes
+pub one_of : (t : Bool) (b c x : ℕ) → b < 256 → c < 256 → x ≡ cond t b c → x < 256
+one_of true b c x l h e = omega (arith, e)
+one_of false b c x l h e = omega (arith, e)
+
+-- a cell's
+cell_byte : (m : Map) (a : ℕ) (o : Option Cell) → finmap.get m a ≡ o → kept.HoldsBytes m → byte_of_cell o < 256
+cell_byte m a None e h = omega arith
+cell_byte m a (Some c) e h = h a c e
+
+-- memory holds bytes at the start of a program
+pub start_held : (segments : List Segment) → kept.IsState [] (start 0 segments) → HoldsBytes (start_map segments)
+unfolding start
+start_held segments is a = cell_byte (start_map segments) a (finmap.get (start_map segments) a) refl is.memory
+
+-- the word that is fetched
+word_fetched : (b : Bool) (v w : ℕ) → (if b then Some v else None) ≡ Some w → v ≡ w
+word_fetched true v w e = cc
+word_fetched false v w e = (let none : None ≡ Some w = e in cc)
+
+-- the bytes of a fetched word
+pub fetched_bytes : (s : ReplayState) (a w : ℕ) → HoldsBytes s.memory.map → a + 3 < 2 ^ 32 → ((q : ℕ) → a ≤ q → q ≤ a + 3 → None ≡ get nat_cmp s.bytes q) → fetched s.memory.map a ≡ Some w → IsKnownWord s a w
+fetched_bytes s a w held fits none is =
+    let m = s.memory.map in
+    let second = next_address a in
+    let third = next_address second in
+    let fourth = next_address third in
+    let word : word_at m a ≡ w = word_fetched (all_can execute m a 4) (word_at m a) w is in
+    let b0 = held a in
+    let b1 = held second in
+    let b2 = held third in
+    let b3 = held fourth in
+    record {
+      lowest = record { none = none a (omega arith) (omega arith); is = omega (arith, word, b0, b1, b2, b3) };
+      second = record { none = none second (omega (arith, fits)) (omega (arith, fits)); is = omega (arith, word, b0, b1, b2, b3) };
+      third = record { none = none third (omega (arith, fits)) (omega (arith, fits)); is = omega (arith, word, b0, b1, b2, b3) };
+      highest = record { none = none fourth (omega (arith, fits)) (omega (arith, fits)); is = omega (arith, word, b0, b1, b2, b3) };
+    }
+
 -- memory's bytes say nothing of a state's terms
-pub other_memory : (trees : List Tree) (s : ReplayState) (memory : Space) → IsState trees s → IsState trees (record s { memory = memory })
-other_memory trees s memory h = record { registers = h.registers; count = h.count; bytes = h.bytes; within = h.within }
+pub other_memory : (trees : List Tree) (s : ReplayState) (memory : Space) → HoldsBytes memory.map → IsState trees s → IsState trees (record s { memory = memory })
+other_memory trees s memory held h = record { registers = h.registers; count = h.count; bytes = h.bytes; within = h.within; held = held }
 
 -- the tree at an address, where some terms are gone and the bytes there are new
 pub replaced : (trees : List Tree) (m new : Map) (q v : ℕ) (o n : Option ℕ) (t : Bool) → n ≡ cond t None o → byte_at new q ≡ cond t v (byte_at m q) → byte_tree trees new q n ≡ cond t (Const v) (byte_tree trees m q o)
@@ -162,8 +212,11 @@ number_put trees s new memory a b may stored left = (λ i. record {
     cells = (λ i. without_bytes (stored i).map) ∙ stored_bare s.memory.map a b
 
 -- the state with it
-pub number_state : (trees : List Tree) (s : ReplayState) (new : BTreeMap ℕ ℕ) (memory : Space) (a : ℕ) → ((q : ℕ) → get nat_cmp new q ≡ (if q == a then None else get nat_cmp s.bytes q)) → IsState trees s → IsState trees (record s { bytes = new; memory = memory })
-number_state trees s new memory a left h = other_memory trees (record s { bytes = new }) memory (fewer_terms trees s new (λ q. q == a) h left)
+pub number_state : (trees : List Tree) (s : ReplayState) (new : BTreeMap ℕ ℕ) (memory : Space) (a b : ℕ) → b < 256 → can write (finmap.get s.memory.map a) ≡ true → memory ≡ record s.memory { map = with_byte s.memory.map a b (finmap.get s.memory.map a) } → ((q : ℕ) → get nat_cmp new q ≡ (if q == a then None else get nat_cmp s.bytes q)) → IsState trees s → IsState trees (record s { bytes = new; memory = memory })
+number_state trees s new memory a b byte may stored left h =
+    other_memory trees (record s { bytes = new }) memory
+    (subst (λ (m : Space). HoldsBytes m.map) (sym stored) (λ q. one_of (q == a) b (byte_at s.memory.map q) _ byte (h.held q) (stored_byte s.memory.map a b q may)))
+    (fewer_terms trees s new (λ q. q == a) h left)
 
 -- two bytes put one after the other
 pub put_two : (s : SymbolicState) (a : ℕ) (first second : Tree) (t u : SymbolicState) → t ≡ with_bytes s (with_tree s.bytes a first) → u ≡ with_bytes t (with_tree t.bytes (next_address a) second) → u ≡ with_bytes s (put_trees s.bytes a (first ∷ second ∷ []))
@@ -191,4 +244,4 @@ no_input bytes all at place n e none = sym (λ i. put_trees bytes at (input_term
 
 -- the place of a state says nothing of its terms
 pub placed_state : (trees : List Tree) (s : ReplayState) (place : ℕ) → IsState trees s → IsState trees (record s { place = place })
-placed_state trees s place h = record { registers = h.registers; count = h.count; bytes = h.bytes; within = h.within }
+placed_state trees s place h = record { registers = h.registers; count = h.count; bytes = h.bytes; within = h.within; held = h.held }

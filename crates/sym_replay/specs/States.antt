@@ -1,5 +1,5 @@
 -- What a state of the replay stands for.
-use Rattle.std.specs.Prelude.{◌≡◌, ℕ, ◌≤◌, List, length, map, slice_index_or, All, Option, Some, None}
+use Rattle.std.specs.Prelude.{◌≡◌, ℕ, ◌≤◌, ◌<◌, List, length, map, slice_index_or, All, Option, Some, None}
 use Rattle.std.specs.Ordering.{nat_cmp}
 use Rattle.std.specs.BTreeMap.{BTreeMap, get}
 use Rattle.term_model.specs.Tree.{Tree, Const}
@@ -34,6 +34,10 @@ register_tree trees s r = slice_index_or (value_trees trees s.registers) r (Cons
 abbrev pub AreWithin : BTreeMap ℕ ℕ → ℕ → ℕ → Type 0
 AreWithin bytes lowest highest = (a t : ℕ) → get nat_cmp bytes a ≡ Some t → (lowest ≤ a) × (a ≤ highest)
 
+-- memory holds bytes
+abbrev pub HoldsBytes : Map → Type 0
+HoldsBytes memory = (a : ℕ) → byte_at memory a < 256
+
 -- the byte at an address is no term, and is this one
 pub record IsKnownByte (s : ReplayState) (address byte : ℕ) : Type 0 where
   pub none : None ≡ get nat_cmp s.bytes address
@@ -52,3 +56,4 @@ pub record IsState (trees : List Tree) (s : ReplayState) : Type 0 where
   pub count : length s.registers ≡ 32
   pub bytes : (a t : ℕ) → get nat_cmp s.bytes a ≡ Some t → IsTermIn trees t
   pub within : AreWithin s.bytes s.lowest s.highest
+  pub held : HoldsBytes s.memory.map

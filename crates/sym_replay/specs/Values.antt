@@ -1,6 +1,7 @@
 -- The trees of values.
-use Rattle.std.specs.Prelude.{◌≡◌, ℕ, ◌<◌, ◌^◌, List, length}
-use Rattle.term_model.specs.Tree.{Tree, Const}
+use Rattle.std.specs.Prelude.{◌≡◌, ℕ, ◌<◌, ◌^◌, List, length, true, false}
+use Rattle.term_model.specs.Tree.{Tree, Const, is_const}
+use Rattle.term_model.specs.ZeroBytes.{is_zero_byte, is_one_byte}
 use Rattle.term_arena.specs.Trees.{tree_of}
 use Rattle.normal_form.specs.Normal.{IsNormal}
 use Rattle.sym_replay.specs.declared.value.Value.{Value}
@@ -29,3 +30,9 @@ pub record IsValueOf (trees : List Tree) (tree : Tree) (v : Value) : Type 0 wher
 -- two values are one known number
 abbrev pub IsSameNumber : Value → Value → Type 0
 IsSameNumber a b = (w : ℕ) × (a ≡ Known w) × (b ≡ Known w)
+
+-- a tree is no constant and, by its form, one byte, which isn't zero: it is its own byte 0
+pub record IsOwnByte (tree : Tree) : Type 0 where
+  pub no_constant : is_const tree ≡ false
+  pub lowest : is_zero_byte tree 0 ≡ false
+  pub upper : is_one_byte tree ≡ true

@@ -19,7 +19,7 @@ ghost use Rattle.sym_replay.specs.States.{terms_of, register_tree, IsState};
 
 use crate::calls::{Reply, reply_to};
 use crate::state::ReplayState;
-use crate::value::{Value, made};
+use crate::value::{Value, byte_of_value, made};
 use no_memory::NoMemory;
 use rv_decode::{Instr, Width};
 use rv_event::Event;
@@ -109,8 +109,7 @@ impl ReplayState {
         ensures place { self.new.place ≡ self.old.place }
         ensures keeps { Extends arena.old arena.new }
     {
-        let number = Value::Known(u32::from(k));
-        let byte = made(arena, Op::Byte, v, &number)?;
+        let byte = byte_of_value(arena, v, k)?;
         self.put_byte(arena, address, &byte)
     }
 

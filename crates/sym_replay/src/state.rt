@@ -1,26 +1,46 @@
 //! Registers and memory as numbers and terms.
 
 ghost use Rattle.std.specs.Prelude.{◌≡◌, ◌<◌, ◌≤◌, ◌+◌, ◌^◌, ◌&&◌, ◌==◌, nat_le, nat_lt, if◌then◌else◌, true, ℕ, List};
-ghost use Rattle.std.specs.Prelude.{length, Some, None, IfSome, IfNone, IsSome, IfOk, OnOk};
+ghost use Rattle.std.specs.Prelude.{length, Some, None, IfSome, IfNone, IsSome, IfOk, OnOk, All};
 ghost use Rattle.term_model.specs.Tree.{Tree, Const};
 ghost use Rattle.term_arena.specs.Trees.{tree_of, Extends};
-ghost use Rattle.memory_map.specs.Cells.{byte_at};
+ghost use Rattle.memory_map.specs.Cells.{byte_at, fetched};
 ghost use Rattle.memory_map.specs.Heaps.{may_break, with_break};
 ghost use Rattle.replay_law.specs.Terms.{reg_term, put_reg, put_trees, with_tree, zero_between, start_terms};
 ghost use Rattle.sym_replay.specs.Cells.{without_bytes, over_bare_cells};
 ghost use Rattle.sym_replay.specs.Values.{value_tree, IsTermIn, IsValueIn, IsValueOf};
-ghost use Rattle.sym_replay.specs.States.{terms_of, register_tree, AreWithin, IsKnownByte, IsKnownWord, IsState};
+ghost use Rattle.sym_replay.specs.States.{terms_of, register_tree, AreWithin, HoldsBytes, IsKnownByte, IsKnownWord, IsState};
 ghost use Rattle.std.specs.Ordering.{nat_cmp};
 ghost use Rattle.std.specs.BTreeMap.{get};
 
 use crate::value::Value;
-use elf32::Image;
+use elf32::{Image, Segment};
+use machine_laws::starts_in_state;
 use memory_map::{Heap, Memory};
 use no_memory::NoMemory;
 use rv_word::byte_of;
 use std::alloc::Global;
 use std::collections::BTreeMap;
 use term_arena::{Arena, Term};
+
+/// The last address that has three more above it.
+const LAST_WORD: u32 = 0xffff_fffc;
+
+/// That bytes are below 256, as their type says.
+fn are_bytes(bytes: &[u8])
+    ensures { All (λ b. b < 256) bytes.now }
+{
+    let _ = bytes;
+}
+
+/// That the bytes of segments are below 256, as their types say. Nothing else is done.
+fn segments_hold_bytes(segments: &[Segment])
+    ensures { All (λ s. All (λ b. b < 256) s.bytes) segments.now }
+{
+    for segment in segments {
+        are_bytes(segment.bytes.as_slice());
+    }
+}
 
 /// Registers and memory over the input, and how many bytes of the input have been read.
 #[derive(Drop)]
@@ -44,6 +64,8 @@ impl ReplayState {
         ensures terms { IfOk result (λ s. (trees : List Tree) →
             terms_of trees s ≡ over_bare_cells (start_terms image.now.segments)) }
     {
+        starts_in_state();
+        segments_hold_bytes(image.segments.as_slice());
         let memory = Memory::start(alloc, image)?;
         let mut registers = [Value::Known(0); 32];
         registers[2] = Value::Known(0x7fff_ff00);
@@ -102,8 +124,49 @@ impl ReplayState {
         self.term_at(address).is_none() && self.memory.byte(address) == byte
     }
 
-    /// Whether the four bytes from an address up are known to be those of a word.
+    /// Whether all four addresses from one up, which don't go on at 0, lie beside the range of those that have terms.
+    fn is_beside_terms(&self, address: u32) -> bool
+        ensures fits { result ≡ true → address + 3 < 2 ^ 32 }
+        ensures none { result ≡ true → AreWithin self.now.bytes self.now.lowest self.now.highest →
+            (a : ℕ) → address ≤ a → a ≤ address + 3 → None ≡ get nat_cmp self.now.bytes a }
+    {
+        if address > LAST_WORD {
+            return false;
+        }
+        if self.highest < address {
+            return true;
+        }
+        address + 3 < self.lowest
+    }
+
+    /// Whether the four bytes from an address up are known to be those of a word. Where no term is near, memory's word is
+    /// compared at once.
+    #[inline(always)]
     pub(crate) fn knows_word(&self, address: u32, word: u32) -> bool
+        requires within { AreWithin self.now.bytes self.now.lowest self.now.highest }
+        requires held { HoldsBytes self.now.memory.map }
+        ensures { result ≡ true → IsKnownWord self.now address word }
+    {
+        if self.is_beside_terms(address) {
+            self.fetches(address, word)
+        } else {
+            self.knows_bytes(address, word)
+        }
+    }
+
+    /// Whether memory's word at an address may be executed and is this one.
+    fn fetches(&self, address: u32, word: u32) -> bool
+        ensures { result ≡ true → fetched self.now.memory.map address ≡ Some word }
+    {
+        match self.memory.fetch(address) {
+            Some(fetched) => fetched == word,
+            None => false,
+        }
+    }
+
+    /// Whether each of the four bytes from an address up is known to be that of a word.
+    #[inline(never)]
+    fn knows_bytes(&self, address: u32, word: u32) -> bool
         requires { AreWithin self.now.bytes self.now.lowest self.now.highest }
         ensures { result ≡ true → IsKnownWord self.now address word }
     {

@@ -1,12 +1,14 @@
 //! Values of registers and bytes: numbers, or terms over the input.
 
-ghost use Rattle.std.specs.Prelude.{◌≡◌, true, IfOk, IfSome};
+ghost use Rattle.std.specs.Prelude.{◌≡◌, ◌<◌, true, IfOk, IfSome};
+ghost use Rattle.term_model.specs.declared.Op.TheVariants.{Byte};
+ghost use Rattle.term_model.specs.Tree.{Const};
 ghost use Rattle.term_arena.specs.Trees.{tree_of, Extends};
 ghost use Rattle.normal_form.specs.Norm.{norm};
 ghost use Rattle.term_model.specs.ByteNumber.{TakesByteNumber};
 ghost use Rattle.path_condition.specs.Sums.{IsNormalTermOf};
 ghost use Rattle.sym_replay.specs.declared.value.Value.TheVariants as values;
-ghost use Rattle.sym_replay.specs.Values.{value_tree, IsTermIn, IsValueIn, IsValueOf, IsSameNumber};
+ghost use Rattle.sym_replay.specs.Values.{value_tree, IsTermIn, IsValueIn, IsValueOf, IsSameNumber, IsOwnByte};
 
 use no_memory::NoMemory;
 use simplify::make;
@@ -80,6 +82,7 @@ pub(crate) fn are_same_number(a: &Value, b: &Value) -> bool
 }
 
 /// The normal form of an operation on two values, as terms.
+#[inline(never)]
 fn made_of_terms(arena: &mut Arena, op: Op, a: &Value, b: &Value) -> Result<Value, NoMemory>
     requires first { IsValueIn arena.old a.now }
     requires second { IsValueIn arena.old b.now }
@@ -94,6 +97,7 @@ fn made_of_terms(arena: &mut Arena, op: Op, a: &Value, b: &Value) -> Result<Valu
 }
 
 /// The normal form of an operation on two values. The arena is asked only where one of them is a term.
+#[inline(always)]
 pub(crate) fn made(arena: &mut Arena, op: Op, a: &Value, b: &Value) -> Result<Value, NoMemory>
     requires first { IsValueIn arena.old a.now }
     requires second { IsValueIn arena.old b.now }
@@ -105,4 +109,47 @@ pub(crate) fn made(arena: &mut Arena, op: Op, a: &Value, b: &Value) -> Result<Va
         Some((x, y)) => Ok(Value::Known(op.value(x, y))),
         None => made_of_terms(arena, op, a, b),
     }
+}
+
+/// The bytes of a term but the lowest, in the form of [`Arena::zero_bytes`].
+const UPPER_BYTES: u8 = 0b1110;
+
+/// Whether byte 0 of a term is the term, as its form shows: its upper bytes are zero.
+fn is_own_byte(arena: &Arena, t: Term) -> bool
+    requires { IsTermIn arena.now t }
+    ensures { result ≡ true → IsOwnByte (tree_of arena.now t) }
+{
+    match arena.node(t) {
+        Node::Const(_) => false,
+        Node::Input(_) => true,
+        Node::Apply(_, _, _) => arena.zero_bytes(t) == UPPER_BYTES,
+    }
+}
+
+/// Whether byte `k` of a value is the value, a term.
+fn has_own_byte(arena: &Arena, v: &Value, k: u8) -> bool
+    requires { IsValueIn arena.now v.now }
+    ensures { result ≡ true → norm Byte (value_tree arena.now v.now) (Const k) ≡ value_tree arena.now v.now }
+{
+    if k != 0 {
+        return false;
+    }
+    match v {
+        Value::Known(_) => false,
+        Value::Term(t) => is_own_byte(arena, *t),
+    }
+}
+
+/// Byte `k` of a value. Where it is the value, the arena makes nothing.
+pub(crate) fn byte_of_value(arena: &mut Arena, v: &Value, k: u8) -> Result<Value, NoMemory>
+    requires value { IsValueIn arena.old v.now }
+    requires byte { k < 4 }
+    ensures value { IfOk result (IsValueOf arena.new (norm Byte (value_tree arena.old v.now) (Const k))) }
+    ensures keeps { Extends arena.old arena.new }
+{
+    if has_own_byte(arena, v, k) {
+        return Ok(*v);
+    }
+    let number = Value::Known(u32::from(k));
+    made(arena, Op::Byte, v, &number)
 }

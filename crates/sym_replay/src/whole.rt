@@ -13,10 +13,10 @@ ghost use Rattle.trace_conditions.specs.Conditions.{conditions_of};
 
 use crate::pins::add_event;
 use crate::state::ReplayState;
+use decode_cache::DecodeCache;
 use elf32::Image;
 use no_memory::NoMemory;
 use path_condition::Conditions;
-use rv_decode::decode;
 use rv_event::{End, Event, Transcript};
 use std::alloc::Global;
 use term_arena::Arena;
@@ -69,11 +69,12 @@ pub fn replay(
     conditions_are_proper();
     let mut state = ReplayState::start(alloc, image)?;
     let mut conditions = Conditions::new(alloc);
+    let mut decoded = DecodeCache::new();
     let events = transcript.events.as_slice();
     for i in 0..events.len() {
         let event = event_at(events, i);
         let shown = shown_after(events, i, transcript.end);
-        let instr = decode(event.word);
+        let instr = decoded.decode(event.pc, event.word);
         add_event(&mut conditions, arena, &state, &event, instr, shown)?;
         state.follow_event(arena, transcript.n, &event, instr)?;
     }
