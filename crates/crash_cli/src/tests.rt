@@ -1,16 +1,17 @@
 //! Whole calls over files and sinks in memory. The digests are those of `sha256sum`.
 
 mod demo;
+mod hostile;
 mod order;
 mod receiver;
 mod reports;
 mod words;
 
 use crate::tool::run_tool;
-use fault_io::{Bytes, FileList, Folder, MemFolder, MemSink, NamedFile, ReadList, SteadyFolder};
+use fault_io::{Bytes, FileList, Folder, MemSink, NamedFile, SteadyFolder};
 use std::alloc::{AllocError, Global};
 use std::test::Fail;
-use test_programs::words::{COMPARE, EBREAK, NOP};
+use test_programs::words::{EBREAK, NOP};
 use test_programs::{ProgramError, program_file};
 
 /// addi x17,x0,93, and the ECALL of an exit
@@ -224,55 +225,12 @@ fn makes_within(
 }
 
 #[test]
-fn an_out_that_fills_up(rt: HostRuntime) -> Result<(), Fail> {
-    let alloc = rt.alloc();
-    let mut folder = folder(alloc, program(alloc, &[EBREAK])?, Vec::new(alloc))?;
-    for room in [0u32, 1, 20, 167] {
-        let part = &EMPTY_INPUT[..room as usize];
-        assert!(rt; makes_within(alloc, &mut folder, (room, 4096), 4, part, b"cannot write\n")?);
-    }
-    assert!(rt; makes_within(alloc, &mut folder, (168, 0), 0, EMPTY_INPUT, b"")?);
-    Ok(())
-}
-
-#[test]
 fn an_err_that_fills_up(rt: HostRuntime) -> Result<(), Fail> {
     let alloc = rt.alloc();
     let mut folder = folder(alloc, program(alloc, &EXIT)?, Vec::new(alloc))?;
     let cases: [(u32, &[u8]); 2] = [(0, b""), (5, b"no cr")];
     for (room, err) in cases {
         assert!(rt; makes_within(alloc, &mut folder, (4096, room), 7, b"", err)?);
-    }
-    Ok(())
-}
-
-/// A folder with a program of four reads and an input of two, whose reads of a number fail.
-fn failing_folder(alloc: Global, read: u64) -> Result<MemFolder, Fail> {
-    let mut files = Vec::new(alloc);
-    files.push(named(alloc, "p", program(alloc, &COMPARE)?)?)?;
-    files.push(named(alloc, "x", b"Azzz".to_vec(alloc)?)?)?;
-    let failing = ReadList::from_vec(vec![in alloc; read; 1]?);
-    Ok(MemFolder::new(FileList::from_vec(files), 50, failing))
-}
-
-/// Whether a read that fails is that of the program or of the input. The fourth read of the program and the
-/// second of the input are the ends of the files.
-fn is_told(alloc: Global, read: u64) -> Result<bool, Fail> {
-    let mut folder = failing_folder(alloc, read)?;
-    let said = call(alloc, &["make", "p", "x"], &mut folder, 4096, 4096)?;
-    Ok(if read <= 4 {
-        is_said(&said, 3, b"", b"cannot read program\n")
-    } else if read <= 6 {
-        is_said(&said, 3, b"", b"cannot read input\n")
-    } else {
-        said.status == 0
-    })
-}
-
-#[test]
-fn a_read_that_fails(rt: HostRuntime) -> Result<(), Fail> {
-    for read in 1..=7u64 {
-        assert!(rt; is_told(rt.alloc(), read)?, "read {read}");
     }
     Ok(())
 }
