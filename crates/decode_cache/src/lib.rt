@@ -52,7 +52,7 @@ fn entry_of(word: u32) -> Entry
 }
 
 impl DecodeCache {
-    /// A cache of one word.
+    /// A cache that holds the word 0 at each place.
     pub fn new() -> DecodeCache {
         DecodeCache {
             entries: [entry_of(0); PLACES],

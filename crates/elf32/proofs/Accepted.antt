@@ -3,10 +3,11 @@ use Rattle.std.proofs.Common.{◌≡◌, ◌≤◌, ◌%◌, ℕ, List, length, 
 use Rattle.std.specs.List.{list_any}
 use Rattle.elf32.specs.declared.error.ElfError.{ElfError}
 use Rattle.elf32.specs.declared.header.Header.{Header}
+use Rattle.elf32.specs.declared.image.Image.{Image}
 use Rattle.elf32.specs.Fields.{e_entry, headers}
 use Rattle.elf32.specs.Spans.{stack, overlap}
 use Rattle.elf32.specs.Rules.{refusal, segment_refusal, is_short, lacks_magic, has_other_class, has_other_encoding, has_other_type, has_other_machine, has_other_instructions, lacks_table, is_outside, spans_of, memory_size}
-use Rattle.elf32.specs.Loads.{segments_of, loaded_program}
+use Rattle.elf32.specs.Loads.{segments_of, loaded_program, program_of}
 use Rattle.elf32.proofs.Order.{in_order_permutes, in_order_rises}
 use Rattle.elf32.proofs.Kept.{Kept, kept}
 
@@ -64,3 +65,7 @@ image_kept bytes none =
     let k = accepted bytes none in
     let found = segments_of bytes (headers bytes) in
     kept bytes (headers bytes) found (loaded_program bytes).segments refl (in_order_permutes found) (in_order_rises found) k.inside k.apart k.small
+
+-- the program of a file's image is the file's
+pub same_program : (image : Image) (bytes : List ℕ) → image.entry ≡ (loaded_program bytes).entry → image.segments ≡ (loaded_program bytes).segments → program_of image ≡ loaded_program bytes
+same_program image bytes entry segments = λ i. record { entry = entry i; segments = segments i }

@@ -4,6 +4,7 @@ use Rattle.std.specs.Prelude.{None, filter, find, All, IfOk, option_map, sum_by,
 use Rattle.std.proofs.lemmas.List.Sums.{sum_by-cons}
 use Rattle.elf32.specs.declared.image.Image.{Image}
 use Rattle.elf32.specs.Loads.{Program, loaded_program, program_of}
+use Rattle.elf32.proofs.Accepted.{same_program}
 use Rattle.rv_event.specs.declared.event.Trap.{Trap}
 use Rattle.rv_event.specs.declared.transcript.Transcript.{Transcript}
 use Rattle.rv_machine.specs.State.{State, start}
@@ -33,10 +34,6 @@ use Rattle.report_maker.specs.Counted.{conflicts_at, NamesFirst}
 pub value_has : {T E : Type 0} (r : Result T E) (P Q : T → Type 0) → ((x : T) → P x → Q x) → IfOk r P → IfOk r Q
 value_has (Ok x) P Q more h = more x h
 value_has (Err e) P Q more h = h
-
--- the program of the file's image
-pub same_program : (image : Image) (p : List ℕ) → image.entry ≡ (loaded_program p).entry → image.segments ≡ (loaded_program p).segments → program_of image ≡ loaded_program p
-same_program image p entry segments = λ i. record { entry = entry i; segments = segments i }
 
 -- the program of a file with an image
 pub image_gives_program : (image : Image) (p : List ℕ) → All (λ byte. byte < 256) p → image.entry ≡ (loaded_program p).entry → IsProgram (loaded_program p)

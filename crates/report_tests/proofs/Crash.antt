@@ -2,6 +2,7 @@
 use Rattle.std.proofs.Common.{◌≡◌, ◌≤◌, ℕ, List, length, sym, ap, arith, subst}
 use Rattle.elf32.specs.declared.image.Image.{Image}
 use Rattle.elf32.specs.Loads.{Program, loaded_program, program_of}
+use Rattle.elf32.proofs.Accepted.{same_program}
 use Rattle.rv_event.specs.declared.event.End.{End}
 use Rattle.rv_event.specs.declared.event.End.TheVariants as ends
 use Rattle.rv_event.specs.declared.event.Trap.{Trap}
@@ -27,10 +28,6 @@ trapped ends.Limit trap is = cc
 crash : (p x : List ℕ) (limit : ℕ) (t : Transcript) (trap : Trap) → AreBytes x → t ≡ transcript_of (loaded_program p) x limit → t.end ≡ ends.Trap trap → IsCrash (loaded_program p) limit x t
 crash p x limit t trap bytes is end =
     record { input = record { long = sym (length-told (loaded_program p) x limit t is); in_range = bytes_within x bytes }; trace = is; trapped = trapped t.end trap end }
-
--- the program of the file's image
-same_program : (image : Image) (p : List ℕ) → image.entry ≡ (loaded_program p).entry → image.segments ≡ (loaded_program p).segments → program_of image ≡ loaded_program p
-same_program image p entry segments = λ i. record { entry = entry i; segments = segments i }
 
 -- a run of a file's image on an input, ended by a trap, is a crash of the file's program
 pub crash-of-image : (p x : List ℕ) (limit : ℕ) (image : Image) (t : Transcript) (trap : Trap) → AreBytes x → image.entry ≡ (loaded_program p).entry → image.segments ≡ (loaded_program p).segments

@@ -4,7 +4,7 @@ use Rattle.term_model.specs.Conditions.{holds}
 use Rattle.term_arena.specs.Trees.{trees_of}
 use Rattle.input_laws.specs.Sets.{freed}
 use Rattle.byte_sets.specs.ByteSet.{has}
-use Rattle.narrow_solve.proofs.ValueLemmas.{AreGathered}
+use Rattle.group_model.proofs.Gathered.{AreGathered}
 use Rattle.narrow_solve.proofs.trial.values_tried.Given as goal
 
 abbrev pub invariant-loop-turn : goal.invariant-loop-turn

@@ -4,10 +4,11 @@ use Rattle.std.proofs.lemmas.Result.{err_from_is_err_and}
 use Rattle.elf32.specs.Loads.{loaded_program}
 use Rattle.input_laws.specs.Inputs.{IsInput}
 use Rattle.byte_sets.specs.ByteSet.{has}
+use Rattle.elf32.proofs.Accepted.{same_program}
 use Rattle.replay_law.specs.Crash.{IsProgram}
 use Rattle.report_laws.specs.Filled.{IsOpen}
 use Rattle.report_maker.proofs.FilledLemmas.{are_bytes}
-use Rattle.report_maker.proofs.MadeLemmas.{image_gives_program, same_program, divided_along, crash_has_events, report_is, choice_along, none_is_spent, first_is_named, counted_is, filled_by_mask, named_by_error}
+use Rattle.report_maker.proofs.MadeLemmas.{image_gives_program, divided_along, crash_has_events, report_is, choice_along, none_is_spent, first_is_named, counted_is, filled_by_mask, named_by_error}
 use Rattle.report_maker.proofs.maker.make_report.Goals as goal
 
 pub divide-requires-clause-program : goal.divide-requires-clause-program

@@ -1,20 +1,14 @@
--- Values gathered one after the other.
-use Rattle.std.proofs.Common.{◌≡◌, ℕ, ◌+◌, ◌<◌, ◌≤◌, ◌==◌, ◌||◌, Bool, true, false, List, sym, ◌∙◌, ap, inl, inr, arith}
-use Rattle.std.specs.Prelude.{nat_lt, ◌&&◌}
+-- Values gathered one after the other into a set.
+use Rattle.std.proofs.Common.{◌≡◌, ℕ, ◌+◌, ◌<◌, ◌≤◌, ◌==◌, ◌||◌, Bool, true, false, sym, ◌∙◌, ap, inl, inr, arith}
 use mathlib.Core.Path.{fun_ext}
-use Rattle.std.proofs.lemmas.Bool.{and_parts, cases_lt, lt-ltb, ltb-true, or_cases, or_left, or_right}
+use Rattle.std.proofs.lemmas.Bool.{cases_lt, or_cases, or_left, or_right}
 use Rattle.std.proofs.lemmas.Bool.Decides.{nat_tests}
-use Rattle.group_model.proofs.HoldLemmas.{one_truth}
-use Rattle.gate_net.specs.declared.literals.Lit.{Lit}
-use Rattle.wide_solve.specs.Agreeing.{agrees, agreeing_values}
+use Rattle.group_model.proofs.HoldLemmas.{one_truth, same_number}
 
 -- the set has those of the wanted values that are below the turn, and of the others wanted ones alone
 pub record AreGathered (wanted set : ℕ → Bool) (turn : ℕ) : Type 0 where
   pub sound : (v : ℕ) → set v ≡ true → wanted v ≡ true
   pub complete : (v : ℕ) → v < turn → wanted v ≡ true → set v ≡ true
-
-same_number : (x y : ℕ) → (x == y) ≡ true → x ≡ y
-same_number x y e = grind (arith, nat_tests)
 
 itself : (x : ℕ) → (x == x) ≡ true
 itself x = grind (arith, nat_tests)
@@ -53,9 +47,3 @@ module _ (wanted set : ℕ → Bool) (turn : ℕ) (so_far : AreGathered wanted s
   -- at the end the set has exactly the wanted values
   pub gathered_all : 256 ≤ turn → ((v : ℕ) → wanted v ≡ true → v < 256) → set ≡ wanted
   gathered_all l small = fun_ext (λ v. one_truth (set v) (wanted v) (so_far.sound v) (λ t. let b : v < 256 = small v t in so_far.complete v (omega arith) t))
-
-pub agreeing_are_bytes : (marks : List Bool) (bits : List Lit) (v : ℕ) → agreeing_values marks bits v ≡ true → v < 256
-agreeing_are_bytes marks bits v t = ltb-true v 256 (and_parts (nat_lt v 256) (agrees marks bits v) t).0
-
-pub agreeing_of_byte : (marks : List Bool) (bits : List Lit) (v : ℕ) → v < 256 → agreeing_values marks bits v ≡ agrees marks bits v
-agreeing_of_byte marks bits v b = ap (λ x. x && agrees marks bits v) (lt-ltb v 256 b)
