@@ -2,27 +2,15 @@
 //! first input, in an order that a seed fixes, with the same length and the same trace. Who gets a
 //! report replays and checks it.
 //!
-//! [`tool::run_tool`] is all that the program does; `main` hands it the words after the program's
-//! name, the files of the system, and the standard streams.
+//! [`crash_tool::tool::run_tool`] is all that the program does; `main` hands it the words after the
+//! program's name, the files of the system, and the standard streams.
 #![tactic(auto)]
-
-pub mod answer;
-mod command;
-mod demo;
-pub mod laws;
-mod outcome;
-mod receiver;
-mod run_text;
-mod say;
-#[cfg(test)]
-mod tests;
-pub mod tool;
-mod watched_run;
-pub mod words;
 
 ghost use Rattle.std.specs.Prelude.{◌≡◌, ◌↔◌, ◌⊎◌};
 
-use answer::{Answer, Refusal};
+use crash_tool::answer::{Answer, Refusal};
+use crash_tool::say::say;
+use crash_tool::tool::run_tool;
 use fault_io::{HostFolder, HostSink};
 use std::env;
 use std::io::ErrorKind;
@@ -60,10 +48,10 @@ fn main(rt: HostRuntime) -> ExitCode {
     let status = match (refusal, files) {
         (None, Ok(files)) => {
             let mut folder = HostFolder::new(files);
-            tool::run_tool(alloc, words.as_slice(), &mut folder, &mut out, &mut err)
+            run_tool(alloc, words.as_slice(), &mut folder, &mut out, &mut err)
         }
-        (Some(refusal), _) => say::say(&mut out, &mut err, &Answer::Refused(refusal)),
-        (None, Err(_)) => say::say(&mut out, &mut err, &Answer::Refused(Refusal::NoMemory)),
+        (Some(refusal), _) => say(&mut out, &mut err, &Answer::Refused(refusal)),
+        (None, Err(_)) => say(&mut out, &mut err, &Answer::Refused(Refusal::NoMemory)),
     };
     ExitCode::from(status)
 }

@@ -1,0 +1,35 @@
+//! What follows from the definitions of the answers alone.
+
+ghost use Rattle.std.specs.Prelude.{◌≡◌, ◌<◌, ℕ, List, length, All, Option};
+ghost use Rattle.fault_io.specs.Files.{Files};
+ghost use Rattle.elf32.specs.Loads.{loaded_program};
+ghost use Rattle.report_laws.specs.Made.{first_input};
+ghost use Rattle.crash_tool.specs.declared.answer.Answer.{Answer};
+ghost use Rattle.crash_tool.specs.declared.words.Options.{Options};
+ghost use Rattle.crash_tool.specs.Words.{Asked};
+ghost use Rattle.crash_tool.specs.Answers.{IsAnswerTo};
+ghost use Rattle.crash_tool.specs.Outcome.{outcome, transcript_under};
+
+/// Two inputs of equal length and trace have one outcome: equal bytes on out and on err, and an
+/// equal status.
+pub fn equal_traces_have_one_outcome()
+    ensures { (p x y : List ℕ) (o : Options) → length x ≡ length y → transcript_under p o x ≡ transcript_under p o y →
+        outcome p o (length x) (transcript_under p o x) ≡ outcome p o (length y) (transcript_under p o y) }
+{}
+
+/// The input that a report gives in place of the original has the original's length and trace, and
+/// so the same outcome: `make` on it gives the same report.
+pub fn a_report_reproduces_itself()
+    ensures same { (p x : List ℕ) (o : Options) → All (λ byte. byte < 256) x →
+        let y = first_input (loaded_program p) o.seed o.steps (transcript_under p o x) in
+        outcome p o (length y) (transcript_under p o y) ≡ outcome p o (length x) (transcript_under p o x) }
+{}
+
+/// Words have one answer over the files that are held.
+pub fn words_and_files_have_one_answer()
+    ensures { (asked : Option Asked) (held : Files) (a b : Answer) → IsAnswerTo asked held a → IsAnswerTo asked held b → a ≡ b }
+{
+    report_text_laws::a_text_has_one_report();
+    report_text_laws::a_text_fails_at_one_line();
+    rv_assemble::code_has_one_file();
+}

@@ -1,0 +1,18 @@
+//! The tool: words, files and two sinks in; a status, a text on out and a line on err out.
+//!
+//! [`tool::run_tool`] is all that the program does, over any folder and any sinks.
+#![tactic(auto)]
+
+pub mod answer;
+mod command;
+mod demo;
+pub mod laws;
+mod outcome;
+mod receiver;
+mod run_text;
+pub mod say;
+pub mod tool;
+mod watched_run;
+pub mod words;
+
+pub use command::WordsError;
