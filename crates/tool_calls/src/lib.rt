@@ -35,7 +35,11 @@ pub fn named(alloc: Global, name: &str, bytes: Vec<u8>) -> Result<NamedFile, All
 }
 
 /// A folder with a program `p` and a second file `x`, an input or a report.
-pub fn folder(alloc: Global, program: Vec<u8>, second: Vec<u8>) -> Result<SteadyFolder, AllocError> {
+pub fn folder(
+    alloc: Global,
+    program: Vec<u8>,
+    second: Vec<u8>,
+) -> Result<SteadyFolder, AllocError> {
     let mut files = Vec::new(alloc);
     files.push(named(alloc, "p", program)?)?;
     files.push(named(alloc, "x", second)?)?;
