@@ -14,14 +14,14 @@ use Rattle.gate_model.specs.Makers.{tree_gates}
 use Rattle.word_bits.specs.Operations.{constant_bits}
 use Rattle.blast_model.specs.Blast.{gates, op_bits, input_bits}
 use Rattle.gate_net.specs.Lits.{AreNamed}
-use Rattle.bit_blast.specs.Lits.{HasYes, AreMade}
+use Rattle.word_gates.specs.Lits.{HasYes, AreMade}
 use Rattle.term_arena.specs.Trees.{tree_of, Extends as ArenaExtends}
 use Rattle.gate_model.specs.Tree.{Tree}
 use Rattle.gate_net.specs.declared.literals.Lit.{Lit}
 use Rattle.gate_net.specs.Trees.{all_signed_of, Extends}
 use Rattle.reached_terms.specs.Reached.{OperandsPass, AreReachedPast}
 use Rattle.bit_blast.specs.Rows.{IsRow, AreRows, KeepRows, row_of}
-use Rattle.bit_blast.proofs.NetLemmas.{kept_all, still_all, turns, itself}
+use Rattle.word_gates.proofs.NetLemmas.{kept_all, still_all, turns, itself}
 
 pub kept_row : (old new : List Tree) (t : terms.Tree) (ls : List Lit) → Extends old new → IsRow old t ls → IsRow new t ls
 kept_row old new t ls k r = record { below = still_all old new ls k r.below; trees = kept_all old new ls k r.below ∙ r.trees; width = r.width }

@@ -16,7 +16,6 @@ ghost use Rattle.blast_model.specs.Blast.{gates};
 ghost use Rattle.blast_laws.specs.Laws.{bits_on};
 ghost use Rattle.bit_blast.specs.Rows.{IsRow, AreRows, KeepRows, row_of};
 
-use crate::operations::{constant, input, operation};
 use gate_net::{Lit, Net};
 use no_memory::NoMemory;
 use reached_terms::reached_past;
@@ -24,6 +23,7 @@ use std::alloc::Global;
 use std::collections::BTreeMap;
 use std::marker::Model;
 use term_arena::{Arena, Node, Term};
+use word_gates::{constant, input, operation};
 
 /// The bits of terms that were made in a net, to be lent to one call of `bits_with` after the
 /// other: a row of 32 Lits for each term, the lowest first.

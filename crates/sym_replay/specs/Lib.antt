@@ -1,5 +1,4 @@
 pub mod Values
 pub mod Cells
 pub mod States
-pub mod Replies
 pub mod Pins

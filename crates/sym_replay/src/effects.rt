@@ -13,13 +13,13 @@ ghost use Rattle.rv_machine.specs.State.{bits as bits_of};
 ghost use Rattle.replay_law.specs.Terms.{reg_term, put_reg, put_trees, with_tree};
 ghost use Rattle.replay_law.specs.Terms as definitions;
 ghost use Rattle.replay_law.specs.Forms.{byte_term as byte_of_term};
-ghost use Rattle.sym_replay.specs.Replies.{reply_of, moved, IsOfHeap};
+ghost use Rattle.call_replies.specs.Replies.{reply_of, moved, IsOfHeap};
 ghost use Rattle.sym_replay.specs.Values.{value_tree, IsValueIn, IsValueOf};
 ghost use Rattle.sym_replay.specs.States.{terms_of, register_tree, IsState};
 
-use crate::calls::{Reply, reply_to};
 use crate::state::ReplayState;
 use crate::value::{Value, byte_of_value, made};
+use call_replies::{Reply, reply_to};
 use no_memory::NoMemory;
 use rv_decode::{Instr, Width};
 use rv_event::Event;

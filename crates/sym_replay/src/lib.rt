@@ -2,7 +2,6 @@
 //! to run the same. The input that the run was made with is not needed, and not asked for.
 #![tactic(auto)]
 
-mod calls;
 mod effects;
 mod pins;
 mod state;

@@ -2,7 +2,7 @@ use Rattle.std.proofs.Common.{sym, ap, ◌∙◌}
 use Rattle.term_model.specs.Tree.{Const}
 use Rattle.replay_law.specs.Terms.{put_reg, after_reply}
 use Rattle.sym_replay.specs.States.{terms_of}
-use Rattle.sym_replay.specs.Replies.{reply_of}
+use Rattle.call_replies.specs.Replies.{reply_of}
 use Rattle.sym_replay.proofs.state.ReplayState.answer.Goals as goal
 
 pub put_constant-requires-in-Breaks-clause-state : goal.put_constant-requires-in-Breaks-clause-state

@@ -1,7 +1,7 @@
 use Rattle.std.proofs.Common.{ap, sym, ◌∙◌, ◌-◌}
 use Rattle.replay_law.specs.Terms.{after_reply, call_value}
 use Rattle.sym_replay.specs.States.{terms_of}
-use Rattle.sym_replay.specs.Replies.{reply_of}
+use Rattle.call_replies.specs.Replies.{reply_of}
 use Rattle.sym_replay.proofs.CellLemmas.{reply_bare}
 use Rattle.sym_replay.proofs.HeapLemmas.{on_ok_then}
 use Rattle.sym_replay.proofs.state.ReplayState.call.Goals as goal

@@ -1,0 +1,12 @@
+pub mod NetLemmas
+pub mod SumLemmas
+pub mod MoveLemmas
+pub mod EachLemmas
+pub mod LeafLemmas
+pub mod SignLemmas
+pub mod EqualLemmas
+pub mod ShiftLemmas
+pub mod ProductLemmas
+pub mod DivisionLemmas
+pub mod SignedLemmas
+pub mod ByteLemmas

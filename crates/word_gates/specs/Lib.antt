@@ -1,0 +1,2 @@
+pub mod Lits
+pub mod Places
