@@ -9,6 +9,7 @@ use rv_word::{AluOp, alu};
 use std::alloc::{AllocError, Global};
 use std::test::Fail;
 use term_arena::{Arena, Op, Term};
+use word_gates::{constant, input, operation};
 
 /// The operations of the processor.
 const OPERATIONS: [AluOp; 18] = [
@@ -102,6 +103,23 @@ fn bits_on(alloc: Global, op: AluOp, a: u32, b: u32) -> Result<u32, AllocError> 
     let mut net = Net::new(alloc)?;
     let made = bits(alloc, &arena, t, &mut net)?;
     number(alloc, &net, &made, &bytes_of(a, b))
+}
+
+/// The sum of a constant and a byte of the input, without a term.
+fn sum_with_input(alloc: Global, word: u32, byte: u8) -> Result<u32, AllocError> {
+    let mut net = Net::new(alloc)?;
+    let first = constant(alloc, word)?;
+    let second = input(alloc, &mut net, 0)?;
+    let sum = operation(alloc, &mut net, Op::Alu(AluOp::Add), &first, &second)?;
+    number(alloc, &net, &sum, &[byte])
+}
+
+#[test]
+fn gates_of_one_operation(rt: HostRuntime) -> Result<(), Fail> {
+    for (word, byte, sum) in [(0, 0, 0), (2, 255, 257), (0xffff_ff80, 0x80, 0)] {
+        assert_eq!(rt; sum_with_input(rt.alloc(), word, byte)?, sum, "at {word:x} {byte:x}");
+    }
+    Ok(())
 }
 
 #[test]
