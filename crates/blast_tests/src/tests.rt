@@ -117,7 +117,11 @@ fn sum_with_input(alloc: Global, word: u32, byte: u8) -> Result<u32, AllocError>
 #[test]
 fn gates_of_one_operation(rt: HostRuntime) -> Result<(), Fail> {
     for (word, byte, sum) in [(0, 0, 0), (2, 255, 257), (0xffff_ff80, 0x80, 0)] {
-        assert_eq!(rt; sum_with_input(rt.alloc(), word, byte)?, sum, "at {word:x} {byte:x}");
+        assert_eq!(rt;
+            sum_with_input(rt.alloc(), word, byte)?,
+            sum,
+            "at {word:x} {byte:x}"
+        );
     }
     Ok(())
 }
