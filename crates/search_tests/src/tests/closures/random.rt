@@ -43,7 +43,8 @@ fn clause(alloc: Global, sequence: &mut Sequence, names: u64) -> Result<Vec<Lit>
     ensures filled { IfOk result (λ clause. 0 < length clause.items) }
 {
     let first = literal(sequence, names);
-    let mut clause = vec![in alloc; first]?;
+    let mut clause = Vec::new(alloc);
+    clause.push(first)?;
     for _ in 0..sequence.next() % 4 {
         clause.push(again(sequence, names, first))?;
     }
