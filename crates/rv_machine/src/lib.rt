@@ -1,6 +1,6 @@
 //! A machine that runs programs of RV32IM with Zifencei, in the RISC-V unprivileged ISA's version
-//! 20191213, with five calls of the environment: read, write, exit and exit_group, and the answer to
-//! any other.
+//! 20191213, with the calls read, write, exit, exit_group and brk of the environment, and one answer
+//! to any other.
 //!
 //! [`trace_of`] gives what a program's run on an input tells. [`Machine`] goes step by step and takes
 //! no memory after its start.
