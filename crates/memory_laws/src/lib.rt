@@ -2,12 +2,12 @@
 //! come to, address by address. Each law is the contract of a function that does nothing.
 #![tactic(auto)]
 
-ghost use Rattle.std.specs.Prelude.{◌≡◌, ℕ, ◌+◌, ◌%◌, ◌<◌, ◌≤◌, ◌^◌, ◌↔◌, true, Some, None, List, length, slice_index, slice_index_or, IsSome};
+ghost use Rattle.std.specs.Prelude.{◌≡◌, ℕ, ◌+◌, ◌-◌, ◌%◌, ◌<◌, ◌≤◌, ◌^◌, ◌↔◌, true, Some, None, if◌then◌else◌, List, length, slice_index, slice_index_or, IsSome};
 ghost use Rattle.std.specs.FinMap.{get};
 ghost use Rattle.elf32.specs.declared.segments.Segment.{Segment};
 ghost use Rattle.memory_map.specs.Cells.{Map, all_can, first_without, byte_at, placed, start_map};
 ghost use Rattle.memory_map.specs.declared.heap.Heap.{Heap};
-ghost use Rattle.memory_map.specs.Heaps.{heap_size, start_heap};
+ghost use Rattle.memory_map.specs.Heaps.{heap_size, start_heap, heap_cell, is_in_span, with_break};
 ghost use Rattle.memory_laws.specs.Ranges.{EachCan, IsFirstWithout, IsOutside};
 ghost use Rattle.memory_laws.specs.Writes.{rights_of_cell};
 ghost use Rattle.memory_laws.specs.Starts.{AreLoaded, IsIn, IsOnStack, segment_cell, stack_cell};
@@ -83,4 +83,11 @@ pub fn heap_at_start()
         get (start_map segments) address ≡ None }
     ensures below { (segments : List Segment) (heap : Heap) → start_heap segments ≡ Some heap →
         heap.start + heap_size < 2 ^ 32 }
+{}
+
+/// As the break moves, the bytes from the old one up to the new one are zeros that may be read and written, those from
+/// the new one up to the old one have no cell, and no other cell changes.
+pub fn break_moves_what_is_between()
+    ensures { (memory : Map) (old new q : ℕ) → get (with_break memory old new) q
+        ≡ (if is_in_span new (old - new) q then None else if is_in_span old (new - old) q then Some heap_cell else get memory q) }
 {}

@@ -19,8 +19,10 @@ ghost use Rattle.gate_net.specs.Lits.{AreNamed};
 ghost use Rattle.gate_net.specs.Trees.{all_signed_of, IsNet};
 ghost use Rattle.gate_net.specs.Formulas.{signed_clauses};
 ghost use Rattle.search_model.specs.Literals.{AreLiterals, named};
-ghost use Rattle.search_model.specs.Tests.{is_conflict};
-ghost use Rattle.search_model.specs.Search.{conflict_count, ends_in_conflict, values_found};
+ghost use Rattle.search_model.specs.Closure.{IsInClosure, IsConflict};
+ghost use Rattle.search_model.specs.Tests.{in_closure, is_conflict};
+ghost use Rattle.search_model.specs.Search.{State, search_end, conflict_count, ends_in_conflict, values_found};
+ghost use Rattle.search_model.specs.Turns.{Ends, Turns, Comes, HasCounted};
 ghost use Rattle.search_model.specs.Model.{Settles};
 ghost use Rattle.wide_laws.specs.Formula.{signed_trees, formula_of, order_of};
 ghost use Rattle.wide_laws.specs.Bytes.{AreRoots, bytes_of};
@@ -30,6 +32,25 @@ ghost use Rattle.wide_laws.specs.Roots.{AreConditions, roots_of, wide_values};
 /// Signed trees are literals.
 pub fn trees_are_literals()
     ensures { AreLiterals signed_trees }
+{}
+
+/// Over signed trees too the tests tell the least set, the search comes to its one end, and its count is that of the
+/// conflicts that the turns counted.
+pub fn the_search_of_trees_is_its_turns()
+    ensures closure { (clauses : List (List Signed)) (decisions : List Signed) (l : Signed) →
+        (in_closure signed_trees clauses decisions l ≡ true) ↔ IsInClosure signed_trees clauses decisions l }
+    ensures conflict { (clauses : List (List Signed)) (decisions : List Signed) →
+        (is_conflict signed_trees clauses decisions ≡ true) ↔ IsConflict signed_trees clauses decisions }
+    ensures comes { (clauses : List (List Signed)) (order : List Signed) →
+        Comes signed_trees clauses order (search_end signed_trees clauses order) }
+    ensures ends { (clauses : List (List Signed)) (order : List Signed) →
+        Ends signed_trees clauses order (search_end signed_trees clauses order) }
+    ensures one_end { (clauses : List (List Signed)) (order : List Signed) (s : State Signed) →
+        Comes signed_trees clauses order s → Ends signed_trees clauses order s → s ≡ search_end signed_trees clauses order }
+    ensures count { (clauses : List (List Signed)) (order : List Signed) (n count : ℕ)
+        (run : Turns signed_trees clauses order n (search_end signed_trees clauses order)) →
+        HasCounted signed_trees clauses order n (search_end signed_trees clauses order) run count →
+        count ≡ conflict_count signed_trees clauses order }
 {}
 
 /// Bit 0 of the gate trees of a condition tells whether it holds: so conditions have these bits as
