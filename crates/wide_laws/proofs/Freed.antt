@@ -29,7 +29,7 @@ use Rattle.wide_laws.proofs.Joined.{value_is}
 use Rattle.wide_laws.proofs.Names.{under_one, one_under, keeps}
 use Rattle.wide_laws.proofs.Sets.{fixed_end, fixed_freed, fixed_kept, gates_model, order_is, IsBit, itself, beq_under}
 
-gates_are : (roots : List Signed) (c : List Signed) → Contains (gate_formula roots) c ↔ IsGateClause roots c
+pub gates_are : (roots : List Signed) (c : List Signed) → Contains (gate_formula roots) c ↔ IsGateClause roots c
 gates_are roots c = (
   λ at. (
       let one = flat_one (λ (r : Signed). clauses_under r.tree) roots c at in

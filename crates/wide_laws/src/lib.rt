@@ -24,7 +24,7 @@ ghost use Rattle.search_model.specs.Tests.{in_closure, is_conflict};
 ghost use Rattle.search_model.specs.Search.{State, search_end, conflict_count, ends_in_conflict, values_found};
 ghost use Rattle.search_model.specs.Turns.{Ends, Turns, Comes, HasCounted};
 ghost use Rattle.search_model.specs.Model.{Settles};
-ghost use Rattle.wide_laws.specs.Formula.{signed_trees, formula_of, order_of};
+ghost use Rattle.wide_laws.specs.Formula.{signed_trees, gate_formula, formula_of, order_of};
 ghost use Rattle.wide_laws.specs.Bytes.{AreRoots, bytes_of};
 ghost use Rattle.wide_laws.specs.Sets.{fixed_from, fixed_bits, IsSound, has_roots, force_roots, yes_name, agreeing};
 ghost use Rattle.wide_laws.specs.Roots.{AreConditions, roots_of, wide_values};
@@ -127,6 +127,7 @@ pub fn names_find_what_trees_find()
 
 /// Clauses over the names of a net that stand for those of the gates under roots tell which bits
 /// stay fixed as the clauses of the gates do. Under bits of the first bytes their closure is no conflict.
+/// The clauses of the gates are those of the gates under the roots.
 pub fn names_fix_what_trees_fix()
     ensures fixed { (trees : List Tree) (roots order : List Lit) (clauses : List (List Lit)) →
         IsNet trees → All (AreNamed (length trees)) clauses → AreNamed (length trees) roots → AreNamed (length trees) order →
@@ -137,7 +138,8 @@ pub fn names_fix_what_trees_fix()
         IsNet trees → All (AreNamed (length trees)) clauses → AreNamed (length trees) order →
         ((c : List Signed) → Contains (signed_clauses trees clauses) c ↔ IsGateClause (all_signed_of trees roots) c) →
         all_signed_of trees order ≡ order_of first places → ((l : Lit) → Contains bits l → Contains order l) →
-        is_conflict named clauses bits ≡ false }
+        is_conflict named clauses bits ≡ false }    ensures gates { (roots : List Signed) (c : List Signed) →
+        Contains (gate_formula roots) c ↔ IsGateClause roots c }
 {}
 
 /// Sets with these bytes at the places of a group keep the group's test, and have its first bytes.
