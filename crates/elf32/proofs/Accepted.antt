@@ -69,3 +69,8 @@ image_kept bytes none =
 -- the program of a file's image is the file's
 pub same_program : (image : Image) (bytes : List ℕ) → image.entry ≡ (loaded_program bytes).entry → image.segments ≡ (loaded_program bytes).segments → program_of image ≡ loaded_program bytes
 same_program image bytes entry segments = λ i. record { entry = entry i; segments = segments i }
+
+-- a file that breaks no rule has an ELF header
+pub has_header : (bytes : List ℕ) → refusal bytes ≡ None → 52 ≤ length bytes
+unfolding refusal
+has_header bytes none = ltb-false _ _ (rule_kept _ _ _ none)

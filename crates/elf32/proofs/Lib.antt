@@ -3,3 +3,4 @@ pub mod Pairs
 pub mod Kept
 pub mod Order
 pub mod Accepted
+pub mod SymbolLemmas

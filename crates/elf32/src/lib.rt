@@ -2,8 +2,9 @@
 //! number and the flags of the RISC-V psABI.
 //!
 //! [`read_image`] answers what a file loads into memory, or the first rule that the file breaks
-//! ([`ElfError`]). Only the ELF header and the program headers are read: section headers, notes,
+//! ([`ElfError`]). It reads the ELF header and the program headers alone: section headers, notes,
 //! attributes (type 70000003), stack marks and other types of program header are let be.
+//! [`read_symbols`] answers the functions that the section headers lead to.
 #![tactic(auto)]
 
 mod bytes;
@@ -13,8 +14,10 @@ mod image;
 mod laws;
 mod load;
 mod rules;
+mod sections;
 mod segments;
 mod span;
+mod symbols;
 
 pub use bytes::Bytes;
 pub use error::ElfError;
@@ -25,3 +28,4 @@ pub use laws::{
 };
 pub use load::read_image;
 pub use segments::{Segment, Segments};
+pub use symbols::{Symbol, Symbols, read_symbols};

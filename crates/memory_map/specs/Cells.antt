@@ -70,6 +70,10 @@ byte_of_cell (Some cell) = cell.byte
 abbrev pub byte_at : Map → ℕ → ℕ
 byte_at memory address = byte_of_cell (get memory address)
 
+-- the byte at an address, where it may be read
+abbrev pub readable_byte : Map → ℕ → Option ℕ
+readable_byte memory address = if can read (get memory address) then Some (byte_at memory address) else None
+
 -- the little-endian half word of the two bytes from an address up
 abbrev pub half_at : Map → ℕ → ℕ
 half_at memory a = byte_at memory a + 256 * byte_at memory (next_address a)

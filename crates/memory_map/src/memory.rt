@@ -5,7 +5,7 @@ ghost use Rattle.std.specs.Prelude.{if◌then◌else◌, length, map, replicate,
 ghost use Rattle.std.specs.Bool.{OnTrue};
 ghost use Rattle.std.specs.FinMap as finmap;
 ghost use Rattle.elf32.specs.Segments.{AreSized};
-ghost use Rattle.memory_map.specs.Cells.{read, write, byte_at, half_at, word_at, fetched, can, all_can, first_without};
+ghost use Rattle.memory_map.specs.Cells.{read, write, byte_at, readable_byte, half_at, word_at, fetched, can, all_can, first_without};
 ghost use Rattle.memory_map.specs.Cells.{ok_unless, with_byte, placed, start_map, cells_from, stack_cells};
 ghost use Rattle.memory_map.specs.Layout.{CanFrom, IsPartAt, IsRun, part_of, heap_parts};
 ghost use Rattle.memory_map.specs.Heaps.{break_answer, after_break, start_heap};
@@ -24,7 +24,8 @@ const STACK_BASE: u32 = 0x7ff0_0000;
 /// The number of the stack's bytes. The address after its last is 80000000.
 const STACK_SIZE: usize = 0x0010_0000;
 
-/// Bytes with rights, at addresses of 32 bits. Only [`Memory::start`] takes memory from the allocator.
+/// Bytes with rights, at addresses of 32 bits. Only [`Memory::start`] and [`Memory::copy`] take memory from
+/// the allocator.
 #[derive(Drop)]
 pub struct Memory {
     stack: Region,
@@ -119,9 +120,7 @@ impl Memory {
 
     /// The byte at an address, where it may be read. Else nothing.
     pub fn load(&self, address: u32) -> Option<u8>
-        ensures { result ≡ (if can read (finmap.get self.now.map address)
-            then Some (byte_at self.now.map address)
-            else None) }
+        ensures { result ≡ readable_byte self.now.map address }
     {
         match self.run(READ, address) {
             [byte, ..] => Some(*byte),
@@ -310,6 +309,31 @@ impl Memory {
             heap,
         })
     }
+
+    /// Another memory with the same cells and the same heap. Memory for all the heap's bytes is taken here
+    /// too. The one error is want of memory.
+    pub fn copy(&self, alloc: Global) -> Result<Memory, NoMemory>
+        ensures { IfOk result (λ m. m ≡ self.now) }
+    {
+        let stack = self.stack.copy(alloc)?;
+        let regions = copies(alloc, self.regions.as_slice())?;
+        Ok(Memory {
+            stack,
+            regions,
+            heap: self.heap,
+        })
+    }
+}
+
+/// Copies of regions, in the same order.
+fn copies(alloc: Global, regions: &[Region]) -> Result<Vec<Region>, NoMemory>
+    ensures { IfOk result (λ v. v.items ≡ regions.now) }
+{
+    let mut copies = Vec::with_capacity(alloc, regions.len())?;
+    for region in regions {
+        copies.push(region.copy(alloc)?)?;
+    }
+    Ok(copies)
 }
 
 /// Zeros.

@@ -76,6 +76,20 @@ impl Region {
         self.bytes.resize(size, 0).unwrap();
     }
 
+    /// Another region with the same bytes and rights, and memory for as many bytes.
+    pub fn copy(&self, alloc: Global) -> Result<Self, NoMemory>
+        ensures { IfOk result (λ r. r ≡ self.now) }
+    {
+        let mut bytes = Vec::with_capacity(alloc, self.room.max(self.bytes.len()))?;
+        bytes.extend_from_slice(self.bytes.as_slice())?;
+        Ok(Region {
+            base: self.base,
+            rights: self.rights,
+            bytes,
+            room: self.room,
+        })
+    }
+
     /// The first address.
     pub fn base(&self) -> u32
         ensures { result ≡ self.now.base }

@@ -4,7 +4,7 @@
 //! make the rest.
 
 ghost use Rattle.std.specs.Prelude.{◌≡◌, ℕ, ◌+◌, ◌-◌, ◌<◌, ◌≤◌, ◌%◌, ◌^◌, false, length, min, IfOk, List, [], ◌∷◌};
-ghost use Rattle.memory_map.specs.Cells.{first_without};
+ghost use Rattle.memory_map.specs.Cells.{first_without, readable_byte};
 ghost use Rattle.memory_map.specs.Cells as cells;
 ghost use Rattle.rv_decode.specs.Rows.{IsWellFormed};
 ghost use Rattle.rv_machine.specs.State.{Goes, Ends, reg, write_reg, at, following, bits, no_call, event_of, trap, start};
@@ -118,12 +118,41 @@ impl Machine {
         self.over
     }
 
-    /// The value of a register.
-    fn read(&self, register: u8) -> u32
-        requires { register < 32 }
-        ensures { result ≡ reg self.now.state register }
+    /// Another machine in the same state. The one error is want of memory.
+    pub fn copy(&self, alloc: Global) -> Result<Machine, NoMemory>
+        ensures { IfOk result (λ m. m ≡ self.now) }
     {
-        self.registers[register as usize]
+        let memory = self.memory.copy(alloc)?;
+        Ok(Machine {
+            registers: self.registers,
+            pc: self.pc,
+            memory,
+            place: self.place,
+            over: self.over,
+            decoded: DecodeCache::new(),
+        })
+    }
+
+    /// The address of the next instruction to execute.
+    pub fn pc(&self) -> u32
+        ensures { result ≡ self.now.state.pc }
+    {
+        self.pc
+    }
+
+    /// The byte at an address, where it may be read. Else nothing.
+    pub fn read_byte(&self, a: u32) -> Option<u8>
+        ensures { result ≡ readable_byte self.now.state.memory a }
+    {
+        self.memory.load(a)
+    }
+
+    /// The value of a register.
+    pub fn register(&self, r: u8) -> u32
+        requires { r < 32 }
+        ensures { result ≡ reg self.now.state r }
+    {
+        self.registers[r as usize]
     }
 
     /// Writes a register. A write to x0 has no effect.
@@ -142,7 +171,7 @@ impl Machine {
         requires { register < 32 }
         ensures { result ≡ address_of self.now.state register (bits immediate) }
     {
-        self.read(register).wrapping_add(bits(immediate))
+        self.register(register).wrapping_add(bits(immediate))
     }
 
     /// The sum of the program counter and an offset.
@@ -232,7 +261,12 @@ impl Machine {
             ≡ event_of self.now.state word 0 (reg self.now.state 17 ∷ reg self.now.state 10 ∷ reg self.now.state 11
             ∷ reg self.now.state 12 ∷ []) EventKind.Call }
     {
-        let call = [self.read(17), self.read(10), self.read(11), self.read(12)];
+        let call = [
+            self.register(17),
+            self.register(10),
+            self.register(11),
+            self.register(12),
+        ];
         Event {
             pc: self.pc,
             word,
@@ -281,7 +315,7 @@ impl Machine {
         ensures count { length result.now ≡ min (reg self.now.state 12) (length input.now - self.now.state.place) }
     {
         let rest = &input[self.place as usize..];
-        let count = self.read(12) as usize;
+        let count = self.register(12) as usize;
         if rest.len() <= count {
             rest
         } else {
@@ -296,11 +330,11 @@ impl Machine {
         ensures { Follows self.old (after_call input.now self.old.state (read_reply self.old.state.memory
             (length input.now - self.old.state.place) (reg self.old.state 10) (reg self.old.state 11) (reg self.old.state 12))) result self.new }
     {
-        if self.read(10) != 0 {
+        if self.register(10) != 0 {
             return self.answer(BAD_DESCRIPTOR);
         }
         let bytes = self.next_bytes(input);
-        let address = self.read(11);
+        let address = self.register(11);
         match self.memory.store_bytes(address, bytes) {
             Ok(()) => {
                 let count = bytes.len() as u32;
@@ -317,12 +351,12 @@ impl Machine {
             Follows self.old (after_call input self.old.state (write_reply self.old.state.memory (reg self.old.state 10)
             (reg self.old.state 11) (reg self.old.state 12))) result self.new }
     {
-        let descriptor = self.read(10);
+        let descriptor = self.register(10);
         if descriptor != 1 && descriptor != 2 {
             return self.answer(BAD_DESCRIPTOR);
         }
-        let size = self.read(12);
-        if self.memory.readable(self.read(11), size) {
+        let size = self.register(12);
+        if self.memory.readable(self.register(11), size) {
             self.answer(size)
         } else {
             self.answer(BAD_ADDRESS)
@@ -334,7 +368,7 @@ impl Machine {
         ensures { (input : List ℕ) →
             Follows self.old (after_call input self.old.state (break_reply self.old.state.heap (reg self.old.state 10))) result self.new }
     {
-        let address = self.read(10);
+        let address = self.register(10);
         match self.memory.brk(address) {
             Some(brk) => self.answer(brk),
             None => self.answer(NO_SUCH_CALL),
@@ -362,10 +396,10 @@ impl Machine {
             (length input.now - self.old.state.place) (reg self.old.state 17) (reg self.old.state 10) (reg self.old.state 11)
             (reg self.old.state 12))) result self.new }
     {
-        match self.read(17) {
+        match self.register(17) {
             63 => self.read_call(input),
             64 => self.write_call(),
-            93 | 94 => self.exit(self.read(10)),
+            93 | 94 => self.exit(self.register(10)),
             214 => self.brk_call(),
             _ => self.answer(NO_SUCH_CALL),
         }
@@ -393,17 +427,17 @@ impl Machine {
                 rs2,
                 offset,
             } => {
-                if is_taken(cond, self.read(rs1), self.read(rs2)) {
+                if is_taken(cond, self.register(rs1), self.register(rs2)) {
                     self.jump(self.relative(offset), 0, 0)
                 } else {
                     self.advance()
                 }
             }
             Instr::AluImm { op, rd, rs1, imm } => {
-                self.finish(rd, alu(op, self.read(rs1), bits(imm)))
+                self.finish(rd, alu(op, self.register(rs1), bits(imm)))
             }
             Instr::AluReg { op, rd, rs1, rs2 } => {
-                self.finish(rd, alu(op, self.read(rs1), self.read(rs2)))
+                self.finish(rd, alu(op, self.register(rs1), self.register(rs2)))
             }
             Instr::Fence { bits: _ } => self.advance(),
             Instr::Ebreak => self.trap(TrapKind::Breakpoint, 0),
@@ -445,7 +479,7 @@ impl Machine {
                 let event = self.event(word, address, EventKind::Store);
                 Stepped {
                     event,
-                    end: self.store(width, address, self.read(rs2)),
+                    end: self.store(width, address, self.register(rs2)),
                 }
             }
             Instr::Ecall => {
