@@ -2,12 +2,11 @@
 
 use crate::values::{OPERATIONS, RESULTS};
 use crate::words::{
-    ATOMIC, AUIPC, BRANCHES, COMPRESSED, FENCES, FLOATING, IMMEDIATES, JAL, JALR, LOADS, LUI,
-    OTHER, REGISTERS, STORES, SYSTEM,
+    AUIPC, BRANCHES, FENCES, ILLEGAL, IMMEDIATES, JAL, JALR, LOADS, LUI, REGISTERS, STORES,
 };
 use decode_cache::DecodeCache;
 use rv_decode::{Instr, decode, encode};
-use rv_word::{AluOp, alu, byte_of};
+use rv_word::{alu, byte_of};
 
 /// Whether the word stands for the instruction, and the instruction's word is this one.
 fn stands_for(word: u32, expected: Instr) -> bool {
@@ -17,57 +16,37 @@ fn stands_for(word: u32, expected: Instr) -> bool {
     }
 }
 
-/// How many of the words stand for an instruction.
-fn legal(words: &[u32]) -> usize {
-    words.iter().filter(|word| decode(**word).is_some()).count()
-}
+// Each of these is the first word that doesn't stand for its instruction.
 
-#[test]
-fn division_and_upper_products(rt: HostRuntime) {
-    assert_eq!(rt; alu(AluOp::Mulhsu, 0xffff_ffff, 0xffff_ffff), 0xffff_ffff);
-    assert_eq!(rt; alu(AluOp::Div, 0x8000_0000, 0xffff_ffff), 0x8000_0000);
-    assert_eq!(rt; alu(AluOp::Rem, 0x8000_0000, 0xffff_ffff), 0);
-    assert_eq!(rt; alu(AluOp::Div, 64, 0), 0xffff_ffff);
-    assert_eq!(rt; alu(AluOp::Divu, 64, 0), 0xffff_ffff);
-}
-
-#[test]
-fn results(rt: HostRuntime) {
-    for (a, b, expected) in RESULTS {
-        for (op, value) in OPERATIONS.iter().zip(expected.iter()) {
-            assert_eq!(rt; alu(*op, a, b), *value, "{op:?} of {a:08x} and {b:08x}");
+fn wrong_upper_immediate() -> Option<u32> {
+    for (word, rd, imm) in LUI {
+        if !stands_for(word, Instr::Lui { rd, imm }) {
+            return Some(word);
         }
     }
-}
-
-#[test]
-fn bytes(rt: HostRuntime) {
-    for (k, byte) in [(0, 0x78), (1, 0x56), (2, 0x34), (3, 0x12)] {
-        assert_eq!(rt; byte_of(k, 0x1234_5678), byte, "byte {k}");
-    }
-}
-
-#[test]
-fn upper_immediates_and_jumps(rt: HostRuntime) {
-    for (word, rd, imm) in LUI {
-        assert!(rt; stands_for(word, Instr::Lui { rd, imm }), "{word:08x}");
-    }
     for (word, rd, imm) in AUIPC {
-        assert!(rt; stands_for(word, Instr::Auipc { rd, imm }), "{word:08x}");
+        if !stands_for(word, Instr::Auipc { rd, imm }) {
+            return Some(word);
+        }
     }
+    None
+}
+
+fn wrong_jump() -> Option<u32> {
     for (word, rd, offset) in JAL {
-        assert!(rt; stands_for(word, Instr::Jal { rd, offset }), "{word:08x}");
+        if !stands_for(word, Instr::Jal { rd, offset }) {
+            return Some(word);
+        }
     }
     for (word, rd, rs1, imm) in JALR {
-        assert!(rt;
-            stands_for(word, Instr::Jalr { rd, rs1, imm }),
-            "{word:08x}"
-        );
+        if !stands_for(word, Instr::Jalr { rd, rs1, imm }) {
+            return Some(word);
+        }
     }
+    None
 }
 
-#[test]
-fn branches(rt: HostRuntime) {
+fn wrong_branch() -> Option<u32> {
     for (word, cond, rs1, rs2, offset) in BRANCHES {
         let expected = Instr::Branch {
             cond,
@@ -75,12 +54,14 @@ fn branches(rt: HostRuntime) {
             rs2,
             offset,
         };
-        assert!(rt; stands_for(word, expected), "{word:08x}");
+        if !stands_for(word, expected) {
+            return Some(word);
+        }
     }
+    None
 }
 
-#[test]
-fn loads_and_stores(rt: HostRuntime) {
+fn wrong_load_or_store() -> Option<u32> {
     for (word, width, rd, rs1, imm) in LOADS {
         let expected = Instr::Load {
             width,
@@ -88,7 +69,9 @@ fn loads_and_stores(rt: HostRuntime) {
             rs1,
             imm,
         };
-        assert!(rt; stands_for(word, expected), "{word:08x}");
+        if !stands_for(word, expected) {
+            return Some(word);
+        }
     }
     for (word, width, rs1, rs2, imm) in STORES {
         let expected = Instr::Store {
@@ -97,46 +80,117 @@ fn loads_and_stores(rt: HostRuntime) {
             rs2,
             imm,
         };
-        assert!(rt; stands_for(word, expected), "{word:08x}");
+        if !stands_for(word, expected) {
+            return Some(word);
+        }
     }
+    None
 }
 
-#[test]
-fn operations_with_an_immediate(rt: HostRuntime) {
+fn wrong_operation() -> Option<u32> {
     for (word, op, rd, rs1, imm) in IMMEDIATES {
-        let expected = Instr::AluImm { op, rd, rs1, imm };
-        assert!(rt; stands_for(word, expected), "{word:08x}");
+        if !stands_for(word, Instr::AluImm { op, rd, rs1, imm }) {
+            return Some(word);
+        }
     }
-}
-
-#[test]
-fn operations_on_registers(rt: HostRuntime) {
     for (word, op, rd, rs1, rs2) in REGISTERS {
-        let expected = Instr::AluReg { op, rd, rs1, rs2 };
-        assert!(rt; stands_for(word, expected), "{word:08x}");
+        if !stands_for(word, Instr::AluReg { op, rd, rs1, rs2 }) {
+            return Some(word);
+        }
     }
+    None
+}
+
+fn wrong_fence_or_call() -> Option<u32> {
+    for bits in FENCES {
+        if !stands_for(bits, Instr::Fence { bits }) {
+            return Some(bits);
+        }
+    }
+    for (word, expected) in [(0x0000_0073, Instr::Ecall), (0x0010_0073, Instr::Ebreak)] {
+        if !stands_for(word, expected) {
+            return Some(word);
+        }
+    }
+    None
+}
+
+/// The first word of all, or the first of an illegal list that stands for an instruction.
+fn wrong_word() -> Option<u32> {
+    let kinds = [
+        wrong_upper_immediate(),
+        wrong_jump(),
+        wrong_branch(),
+        wrong_load_or_store(),
+        wrong_operation(),
+        wrong_fence_or_call(),
+    ];
+    for wrong in kinds {
+        if wrong.is_some() {
+            return wrong;
+        }
+    }
+    None
 }
 
 #[test]
-fn fences_and_calls(rt: HostRuntime) {
-    for bits in FENCES {
-        assert!(rt; stands_for(bits, Instr::Fence { bits }), "{bits:08x}");
+fn words_of_instructions(rt: HostRuntime) {
+    assert_eq!(rt; wrong_word(), None);
+}
+
+/// The first illegal word that stands for an instruction.
+fn legal_word() -> Option<u32> {
+    for words in ILLEGAL {
+        for word in words {
+            if decode(*word).is_some() {
+                return Some(*word);
+            }
+        }
     }
-    assert!(rt; stands_for(0x0000_0073, Instr::Ecall));
-    assert!(rt; stands_for(0x0010_0073, Instr::Ebreak));
+    None
 }
 
 #[test]
 fn illegal_words(rt: HostRuntime) {
-    assert_eq!(rt; legal(&COMPRESSED), 0);
-    assert_eq!(rt; legal(&FLOATING), 0);
-    assert_eq!(rt; legal(&ATOMIC), 0);
-    assert_eq!(rt; legal(&SYSTEM), 0);
-    assert_eq!(rt; legal(&OTHER), 0);
+    assert_eq!(rt; legal_word(), None);
+}
+
+/// Whether each operation makes its value of two words.
+fn have_values(a: u32, b: u32, expected: [u32; 18]) -> bool {
+    for i in 0..18 {
+        if alu(OPERATIONS[i], a, b) != expected[i] {
+            return false;
+        }
+    }
+    true
+}
+
+/// The first word of the first two of which an operation makes another value.
+fn wrong_result() -> Option<u32> {
+    for (a, b, expected) in RESULTS {
+        if !have_values(a, b, expected) {
+            return Some(a);
+        }
+    }
+    None
 }
 
 #[test]
-fn words_decoded_before(rt: HostRuntime) {
+fn results(rt: HostRuntime) {
+    assert_eq!(rt; wrong_result(), None);
+}
+
+/// Whether the bytes of a word are told, the lowest first.
+fn are_bytes() -> bool {
+    let word = 0x1234_5678;
+    byte_of(0, word) == 0x78
+        && byte_of(1, word) == 0x56
+        && byte_of(2, word) == 0x34
+        && byte_of(3, word) == 0x12
+}
+
+/// Whether a word that was decoded before is what it was, and another at its address what it is.
+fn are_decoded_again() -> bool {
     let mut cache = DecodeCache::new();
     for (address, word, expected) in [
         (0x10000, 0x0010_0073, Some(Instr::Ebreak)),
@@ -145,6 +199,14 @@ fn words_decoded_before(rt: HostRuntime) {
         (0x10004, 0, None),
         (0x10000, 0x0000_0073, Some(Instr::Ecall)),
     ] {
-        assert!(rt; cache.decode(address, word) == expected, "{word:08x}");
+        if cache.decode(address, word) != expected {
+            return false;
+        }
     }
+    true
+}
+
+#[test]
+fn bytes_and_words_decoded_before(rt: HostRuntime) {
+    assert!(rt; are_bytes() && are_decoded_again());
 }

@@ -166,7 +166,7 @@ pub(crate) const FENCES: [u32; 6] = [
 ];
 
 /// Two instructions of the extension C each.
-pub(crate) const COMPRESSED: [u32; 6] = [
+const COMPRESSED: [u32; 6] = [
     0x0001_0001, // c.addi x0,0; c.addi x0,0
     0x8082_4505, // c.li x10,1; c.jr x1
     0xc0c0_4080, // c.lw x8,0(x9); c.sw x8,4(x9)
@@ -176,7 +176,7 @@ pub(crate) const COMPRESSED: [u32; 6] = [
 ];
 
 /// Instructions of the extensions F and D.
-pub(crate) const FLOATING: [u32; 10] = [
+const FLOATING: [u32; 10] = [
     0x0001_2087, // flw f1,0(x2)
     0x0011_2227, // fsw f1,4(x2)
     0x0082_3187, // fld f3,8(x4)
@@ -190,7 +190,7 @@ pub(crate) const FLOATING: [u32; 10] = [
 ];
 
 /// Instructions of the extension A.
-pub(crate) const ATOMIC: [u32; 4] = [
+const ATOMIC: [u32; 4] = [
     0x1001_20af, // lr.w x1,(x2)
     0x1842_a1af, // sc.w x3,x4,(x5)
     0x0074_232f, // amoadd.w x6,x7,(x8)
@@ -198,7 +198,7 @@ pub(crate) const ATOMIC: [u32; 4] = [
 ];
 
 /// System instructions but ECALL and EBREAK, and words that differ from these in one field.
-pub(crate) const SYSTEM: [u32; 15] = [
+const SYSTEM: [u32; 15] = [
     0x3001_10f3, // csrrw x1,mstatus,x2
     0xc000_21f3, // csrrs x3,cycle,x0
     0x3042_b273, // csrrc x4,mie,x5
@@ -217,7 +217,7 @@ pub(crate) const SYSTEM: [u32; 15] = [
 ];
 
 /// Instructions of RV64 and of Zba, Zbb and Zbs, and words with a funct7, a funct3 or an opcode that RV32IM has not.
-pub(crate) const OTHER: [u32; 39] = [
+const OTHER: [u32; 39] = [
     0x0081_3083, // ld x1,8(x2)
     0x0042_6183, // lwu x3,4(x4)
     0x0053_3823, // sd x5,16(x6)
@@ -258,3 +258,6 @@ pub(crate) const OTHER: [u32; 39] = [
     0x0000_0000, // .word 0x00000000
     0xffff_ffff, // .word 0xffffffff
 ];
+
+/// Words that are no instruction of RV32IM.
+pub(crate) const ILLEGAL: [&[u32]; 5] = [&COMPRESSED, &FLOATING, &ATOMIC, &SYSTEM, &OTHER];

@@ -1,9 +1,15 @@
-//! Runs of small programs on the machine.
+//! Files of programs and the machine's memory, by the calls of their libraries: what no run of the tool tells.
 #![tactic(auto)]
 
 #[cfg(test)]
-mod memory;
+mod demos;
 #[cfg(test)]
-mod programs;
+mod files;
+#[cfg(test)]
+mod images;
+#[cfg(test)]
+mod linked;
+#[cfg(test)]
+mod memory;
 #[cfg(test)]
 mod tests;

@@ -41,12 +41,6 @@ fn has_segments_zeros_and_stack(memory: &Memory) -> bool {
         && memory.fetch(0x7ff0_0000) == None
 }
 
-#[test]
-fn starts_with_segments_zeros_and_stack(rt: HostRuntime) -> Result<(), Fail> {
-    assert!(rt; has_segments_zeros_and_stack(&started(rt.alloc())?));
-    Ok(())
-}
-
 /// Whether accesses go on at address 0 after the last.
 fn wraps(memory: &mut Memory) -> bool {
     memory.load_word(0xffff_fffe) == Ok(0x4433_2211)
@@ -59,24 +53,12 @@ fn wraps(memory: &mut Memory) -> bool {
         && memory.load_word(0xffff_ffff) == Err(2)
 }
 
-#[test]
-fn wraps_after_the_last_address(rt: HostRuntime) -> Result<(), Fail> {
-    assert!(rt; wraps(&mut started(rt.alloc())?));
-    Ok(())
-}
-
 /// Whether accesses cross from a segment to one that touches it.
 fn crosses(memory: &mut Memory) -> bool {
     memory.load_word(0x1004) == Ok(0x0807_0000)
         && memory.fetch(0x1004) == None
         && memory.store_bytes(0x1005, &[9, 10]) == Ok(())
         && memory.load_word(0x1004) == Ok(0x080a_0900)
-}
-
-#[test]
-fn crosses_touching_segments(rt: HostRuntime) -> Result<(), Fail> {
-    assert!(rt; crosses(&mut started(rt.alloc())?));
-    Ok(())
 }
 
 /// Whether a store that is refused changes nothing.
@@ -88,12 +70,6 @@ fn refuses_whole_stores(memory: &mut Memory) -> bool {
         && memory.load_half(0x1006) == Ok(0x0907)
 }
 
-#[test]
-fn refused_stores_change_nothing(rt: HostRuntime) -> Result<(), Fail> {
-    assert!(rt; refuses_whole_stores(&mut started(rt.alloc())?));
-    Ok(())
-}
-
 /// Whether an empty range may be anywhere.
 fn takes_empty_ranges(memory: &mut Memory) -> bool {
     memory.readable(0x5000, 0)
@@ -102,8 +78,28 @@ fn takes_empty_ranges(memory: &mut Memory) -> bool {
         && !memory.readable(0x5000, 1)
 }
 
+/// What the memory of the program doesn't do. Each is asked of a memory of its own.
+fn first_wrong(alloc: Global) -> Result<Option<&'static str>, Fail> {
+    if !has_segments_zeros_and_stack(&started(alloc)?) {
+        return Ok(Some("starts with segments, zeros and the stack"));
+    }
+    if !wraps(&mut started(alloc)?) {
+        return Ok(Some("wraps after the last address"));
+    }
+    if !crosses(&mut started(alloc)?) {
+        return Ok(Some("crosses touching segments"));
+    }
+    if !refuses_whole_stores(&mut started(alloc)?) {
+        return Ok(Some("refuses whole stores"));
+    }
+    if !takes_empty_ranges(&mut started(alloc)?) {
+        return Ok(Some("takes empty ranges anywhere"));
+    }
+    Ok(None)
+}
+
 #[test]
-fn empty_ranges_may_be_anywhere(rt: HostRuntime) -> Result<(), Fail> {
-    assert!(rt; takes_empty_ranges(&mut started(rt.alloc())?));
+fn accesses(rt: HostRuntime) -> Result<(), Fail> {
+    assert_eq!(rt; first_wrong(rt.alloc())?, None);
     Ok(())
 }

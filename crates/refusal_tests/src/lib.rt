@@ -1,4 +1,4 @@
-//! What stands after a call that was refused memory, and reports that are cut short.
+//! What stands after a call that was refused memory.
 #![tactic(auto)]
 
 #[cfg(test)]

@@ -5,3 +5,5 @@
 mod conditions;
 #[cfg(test)]
 mod tests;
+#[cfg(test)]
+mod wanted;

@@ -1,12 +1,12 @@
 //! The conditions of small runs, compared with what is worked out by hand.
 
+use crate::wanted::{Wanted, are};
 use elf32::Image;
 use rv_machine::trace_of;
-use rv_word::AluOp;
-use std::alloc::{AllocError, Global};
+use std::alloc::Global;
 use std::test::Fail;
 use sym_replay::replay;
-use term_arena::{Arena, Op, Term};
+use term_arena::Arena;
 use test_programs::words::{BRANCH_TO_THE_NEXT, JUMP_TO_TWO, OVERFLOW, RUN_THE_INPUT, SUM_OF_TWO};
 use test_programs::{program_image, zeros};
 
@@ -69,167 +69,132 @@ const MOVED_BREAK: [u32; 21] = [
     0x0010_0073, // ebreak
 ];
 
-/// The conditions of an image's run on an input of up to 64 bytes.
-fn conditions_of_image(
+/// What a run shows, its program's words and input, and its conditions.
+type Run = (
+    &'static str,
+    &'static [u32],
+    &'static [u8],
+    &'static [Wanted],
+);
+
+/// Runs of at most 1,000 steps.
+const RUNS: [Run; 8] = [
+    (
+        "a sum is pinned by its bytes",
+        &SUM_OF_TWO,
+        &[0x32, 0x32],
+        &[
+            Wanted::SumByte(0, 0x64),
+            Wanted::SumByte(1, 0),
+            Wanted::SumByte(2, 0),
+            Wanted::SumByte(3, 0),
+        ],
+    ),
+    (
+        "a return address is pinned but for one bit",
+        &OVERFLOW,
+        &[0x61; 64],
+        &[
+            Wanted::EvenByte(28, 0x60),
+            Wanted::Byte(29, 0x61),
+            Wanted::Byte(30, 0x61),
+            Wanted::Byte(31, 0x61),
+        ],
+    ),
+    (
+        "a branch to the next that isn't taken",
+        &BRANCH_TO_THE_NEXT,
+        &[0],
+        &[],
+    ),
+    (
+        "a branch to the next that is taken",
+        &BRANCH_TO_THE_NEXT,
+        &[0x55],
+        &[],
+    ),
+    (
+        "a misaligned jump shows nothing",
+        &JUMP_TO_TWO,
+        &[0x61],
+        &[],
+    ),
+    (
+        "bytes beside a counter are terms with numbers",
+        &COUNTED_BYTES,
+        &[0x61, 0x60],
+        &[Wanted::Below(0, 98), Wanted::SumBelow(1, 1, 98)],
+    ),
+    (
+        "a word has read and known bytes",
+        &PATCHED_WORD,
+        &[0],
+        &[Wanted::Byte(0, 0)],
+    ),
+    (
+        "bytes that the break moves past are known",
+        &MOVED_BREAK,
+        &[0x61],
+        &[Wanted::NotZero(0)],
+    ),
+];
+
+/// Whether the run of an image on an input of up to 64 bytes has these conditions.
+fn has_conditions(
     alloc: Global,
     arena: &mut Arena,
     image: &Image,
     input: &[u8],
-) -> Result<Vec<Term>, Fail> {
+    wanted: &[Wanted],
+) -> Result<bool, Fail> {
     if input.len() > 64 {
-        return Err("a long input".into());
+        return Ok(false);
     }
     let transcript = trace_of(alloc, image, input, 1000)?;
     let conditions = replay(alloc, image, &transcript, arena)?;
-    Ok(conditions.list().to_vec(alloc)?)
+    Ok(are(arena, conditions.list(), wanted)?)
 }
 
-/// The same of a program's words.
-fn conditions_of(
-    alloc: Global,
-    arena: &mut Arena,
-    words: &[u32],
-    input: &[u8],
-) -> Result<Vec<Term>, Fail> {
-    let image = program_image(alloc, words, &[])?;
-    conditions_of_image(alloc, arena, &image, input)
-}
-
-/// The condition that byte `k` of the sum of the first two bytes of the input has this value.
-fn sum_byte_is(arena: &mut Arena, k: u32, value: u32) -> Result<Term, AllocError> {
-    let first = arena.input(0)?;
-    let second = arena.input(1)?;
-    let sum = arena.intern(Op::Alu(AluOp::Add), first, second)?;
-    let number = arena.constant(k)?;
-    let byte = arena.intern(Op::Byte, sum, number)?;
-    let wanted = arena.constant(value)?;
-    arena.intern(Op::Eq, byte, wanted)
-}
-
-/// The condition that the byte at a place of the input has this value.
-fn input_is(arena: &mut Arena, place: u32, value: u32) -> Result<Term, AllocError> {
-    let byte = arena.input(place)?;
-    let wanted = arena.constant(value)?;
-    arena.intern(Op::Eq, byte, wanted)
-}
-
-/// The condition that the byte at a place of the input has this value once its lowest bit is
-/// cleared.
-fn even_input_is(arena: &mut Arena, place: u32, value: u32) -> Result<Term, AllocError> {
-    let byte = arena.input(place)?;
-    let mask = arena.constant(0xfe)?;
-    let even = arena.intern(Op::Alu(AluOp::And), byte, mask)?;
-    let wanted = arena.constant(value)?;
-    arena.intern(Op::Eq, even, wanted)
-}
-
-#[test]
-fn a_sum_is_pinned_by_its_bytes(rt: HostRuntime) -> Result<(), Fail> {
-    let mut arena = Arena::new(rt.alloc())?;
-    let found = conditions_of(rt.alloc(), &mut arena, &SUM_OF_TWO, &[0x32, 0x32])?;
-    let wanted = [
-        sum_byte_is(&mut arena, 0, 0x64)?,
-        sum_byte_is(&mut arena, 1, 0)?,
-        sum_byte_is(&mut arena, 2, 0)?,
-        sum_byte_is(&mut arena, 3, 0)?,
-    ];
-    assert_eq!(rt; found.as_slice(), wanted.as_slice());
-    Ok(())
-}
-
-#[test]
-fn a_return_address_is_pinned_but_for_one_bit(rt: HostRuntime) -> Result<(), Fail> {
-    let mut arena = Arena::new(rt.alloc())?;
-    let found = conditions_of(rt.alloc(), &mut arena, &OVERFLOW, &[0x61; 64])?;
-    let wanted = [
-        even_input_is(&mut arena, 28, 0x60)?,
-        input_is(&mut arena, 29, 0x61)?,
-        input_is(&mut arena, 30, 0x61)?,
-        input_is(&mut arena, 31, 0x61)?,
-    ];
-    assert_eq!(rt; found.as_slice(), wanted.as_slice());
-    Ok(())
-}
-
-#[test]
-fn a_branch_to_the_next_instruction_shows_nothing(rt: HostRuntime) -> Result<(), Fail> {
-    let mut arena = Arena::new(rt.alloc())?;
-    for byte in [0, 0x55] {
-        let found = conditions_of(rt.alloc(), &mut arena, &BRANCH_TO_THE_NEXT, &[byte])?;
-        assert_eq!(rt; found.len(), 0);
+/// The first run whose conditions differ.
+fn first_wrong(alloc: Global) -> Result<Option<&'static str>, Fail> {
+    for (what, words, input, wanted) in &RUNS {
+        let image = program_image(alloc, words, &[])?;
+        let mut arena = Arena::new(alloc)?;
+        if !has_conditions(alloc, &mut arena, &image, input, wanted)? {
+            return Ok(Some(what));
+        }
     }
-    Ok(())
+    Ok(None)
 }
 
 #[test]
-fn bytes_that_are_fetched_are_those_of_the_word(rt: HostRuntime) -> Result<(), Fail> {
-    let alloc = rt.alloc();
-    let mut arena = Arena::new(rt.alloc())?;
-    // ebreak
-    let input = [0x73, 0, 0x10, 0];
+fn conditions_of_runs(rt: HostRuntime) -> Result<(), Fail> {
+    assert_eq!(rt; first_wrong(rt.alloc())?, None);
+    Ok(())
+}
+
+/// Whether bytes that are fetched are those of the word, an EBREAK.
+fn fetched_bytes_are_known(alloc: Global) -> Result<bool, Fail> {
     let image = program_image(alloc, &RUN_THE_INPUT, &[zeros(alloc, 0x2_0000, 4, 7)])?;
-    let found = conditions_of_image(alloc, &mut arena, &image, &input)?;
+    let mut arena = Arena::new(alloc)?;
     let wanted = [
-        input_is(&mut arena, 0, 0x73)?,
-        input_is(&mut arena, 1, 0)?,
-        input_is(&mut arena, 2, 0x10)?,
-        input_is(&mut arena, 3, 0)?,
+        Wanted::Byte(0, 0x73),
+        Wanted::Byte(1, 0),
+        Wanted::Byte(2, 0x10),
+        Wanted::Byte(3, 0),
     ];
-    assert_eq!(rt; found.as_slice(), wanted.as_slice());
-    Ok(())
+    has_conditions(alloc, &mut arena, &image, &[0x73, 0, 0x10, 0], &wanted)
+}
+
+/// Whether a run that reads nothing makes no term.
+fn no_term_is_made(alloc: Global) -> Result<bool, Fail> {
+    let image = program_image(alloc, &JUMP_TO_TWO, &[])?;
+    let mut arena = Arena::new(alloc)?;
+    Ok(has_conditions(alloc, &mut arena, &image, &[], &[])? && arena.len() == 0)
 }
 
 #[test]
-fn a_misaligned_jump_shows_nothing(rt: HostRuntime) -> Result<(), Fail> {
-    let mut arena = Arena::new(rt.alloc())?;
-    let found = conditions_of(rt.alloc(), &mut arena, &JUMP_TO_TWO, &[0x61])?;
-    assert_eq!(rt; found.len(), 0);
-    Ok(())
-}
-
-#[test]
-fn bytes_beside_a_counter_are_terms_with_numbers(rt: HostRuntime) -> Result<(), Fail> {
-    let mut arena = Arena::new(rt.alloc())?;
-    let found = conditions_of(rt.alloc(), &mut arena, &COUNTED_BYTES, &[0x61, 0x60])?;
-    let first = arena.input(0)?;
-    let second = arena.input(1)?;
-    let one = arena.constant(1)?;
-    let limit = arena.constant(98)?;
-    let sum = arena.intern(Op::Alu(AluOp::Add), second, one)?;
-    let wanted = [
-        arena.intern(Op::Alu(AluOp::Sltu), first, limit)?,
-        arena.intern(Op::Alu(AluOp::Sltu), sum, limit)?,
-    ];
-    assert_eq!(rt; found.as_slice(), wanted.as_slice());
-    Ok(())
-}
-
-#[test]
-fn a_word_has_read_and_known_bytes(rt: HostRuntime) -> Result<(), Fail> {
-    let mut arena = Arena::new(rt.alloc())?;
-    let found = conditions_of(rt.alloc(), &mut arena, &PATCHED_WORD, &[0])?;
-    let wanted = [input_is(&mut arena, 0, 0)?];
-    assert_eq!(rt; found.as_slice(), wanted.as_slice());
-    Ok(())
-}
-
-#[test]
-fn bytes_that_the_break_moves_past_are_known(rt: HostRuntime) -> Result<(), Fail> {
-    let mut arena = Arena::new(rt.alloc())?;
-    let found = conditions_of(rt.alloc(), &mut arena, &MOVED_BREAK, &[0x61])?;
-    let read = arena.input(0)?;
-    let zero = arena.constant(0)?;
-    let is_zero = arena.intern(Op::Eq, read, zero)?;
-    let wanted = [arena.intern(Op::Eq, is_zero, zero)?];
-    assert_eq!(rt; found.as_slice(), wanted.as_slice());
-    Ok(())
-}
-
-#[test]
-fn a_run_that_reads_nothing_has_no_terms(rt: HostRuntime) -> Result<(), Fail> {
-    let mut arena = Arena::new(rt.alloc())?;
-    let found = conditions_of(rt.alloc(), &mut arena, &JUMP_TO_TWO, &[])?;
-    assert_eq!(rt; found.len(), 0);
-    assert_eq!(rt; arena.len(), 0);
+fn what_is_fetched_and_what_is_not_read(rt: HostRuntime) -> Result<(), Fail> {
+    assert!(rt; fetched_bytes_are_known(rt.alloc())? && no_term_is_made(rt.alloc())?);
     Ok(())
 }

@@ -1,15 +1,9 @@
-//! Reports that are made of the runs of small programs, worked out by hand.
+//! What a report doesn't say of how it was made, and texts that are read and written.
 #![tactic(auto)]
 
-#[cfg(test)]
-mod case;
-#[cfg(test)]
-mod make;
 #[cfg(test)]
 mod programs;
 #[cfg(test)]
 mod tests;
 #[cfg(test)]
 mod texts;
-#[cfg(test)]
-mod wide;

@@ -18,23 +18,6 @@ pub const THREE_TIMES: [u32; 13] = [
     0x0010_0073, // ebreak
 ];
 
-/// Reads 4096 bytes to 00020000, compares each with 128, and meets an EBREAK.
-pub const EACH_BYTE: [u32; 13] = [
-    0x0002_05b7, // lui x11,0x20
-    0x0000_1637, // lui x12,0x1
-    0x0006_0613, // addi x12,x12,0 # 0x1000
-    0x03f0_0893, // addi x17,x0,63
-    0x0000_0073, // ecall
-    0x00c5_86b3, // add x13,x11,x12
-    0x0005_c283, // lbu x5,0(x11) # 0x20000
-    0x0802_b313, // sltiu x6,x5,128
-    0x0003_0463, // beq x6,x0,0x10028
-    0x0013_8393, // addi x7,x7,1
-    0x0015_8593, // addi x11,x11,1
-    0xfed5_96e3, // bne x11,x13,0x10018
-    0x0010_0073, // ebreak
-];
-
 /// Reads four bytes, and meets an EBREAK where they add up to 300. Else it exits.
 pub const SUM_OF_FOUR: [u32; 16] = [
     0x0001_0593, // addi x11,x2,0

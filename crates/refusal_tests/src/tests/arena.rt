@@ -7,7 +7,6 @@ use no_memory::NoMemory;
 use rv_machine::trace_of;
 use rv_word::AluOp;
 use std::alloc::Global;
-use std::test::Fail;
 use sym_replay::replay;
 use term_arena::{Arena, Node, Op, Term};
 use test_programs::words::OVERFLOW;
@@ -61,7 +60,7 @@ fn another(arena: &mut Arena, last: Term, i: u32) -> Result<Term, NoMemory>
 }
 
 /// Whether terms stand after each refusal of a call that makes one.
-fn stand_after_calls(alloc: Global) -> Result<bool, NoMemory> {
+pub(super) fn stand_after_calls(alloc: Global) -> Result<bool, NoMemory> {
     let mut arena = Arena::new(alloc)?;
     let known = make_first(&mut arena)?;
     let mut last = known.sum;
@@ -80,21 +79,9 @@ fn stand_after_calls(alloc: Global) -> Result<bool, NoMemory> {
     Ok(arena.len() == 4997 && stand(&mut arena, known))
 }
 
-/// A first try may be refused before there is anything to ask.
-#[test]
-fn terms_stand_after_each_call(rt: HostRuntime) -> Result<(), Fail> {
-    let alloc = rt.alloc();
-    let found = match stand_after_calls(alloc) {
-        Ok(found) => found,
-        Err(_) => stand_after_calls(alloc)?,
-    };
-    assert!(rt; found);
-    Ok(())
-}
-
 /// Whether terms stand after a replay that is refused. The replay of an overwritten return address has four
 /// conditions.
-fn stand_after_replay(alloc: Global) -> Result<bool, ProgramError> {
+pub(super) fn stand_after_replay(alloc: Global) -> Result<bool, ProgramError> {
     let mut arena = Arena::new(alloc)?;
     let known = make_first(&mut arena)?;
     let image = program_image(alloc, &OVERFLOW, &[])?;
@@ -109,15 +96,4 @@ fn stand_after_replay(alloc: Global) -> Result<bool, ProgramError> {
         }
     };
     Ok(conditions.list().len() == 4 && stand(&mut arena, known))
-}
-
-#[test]
-fn terms_stand_after_a_replay(rt: HostRuntime) -> Result<(), Fail> {
-    let alloc = rt.alloc();
-    let found = match stand_after_replay(alloc) {
-        Ok(found) => found,
-        Err(_) => stand_after_replay(alloc)?,
-    };
-    assert!(rt; found);
-    Ok(())
 }

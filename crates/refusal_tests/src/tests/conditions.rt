@@ -8,7 +8,6 @@ ghost use Rattle.path_condition.specs.Listed.{Belong};
 use no_memory::NoMemory;
 use path_condition::Conditions;
 use std::alloc::Global;
-use std::test::Fail;
 use term_arena::{Arena, Term};
 
 /// Adds in turn that the byte is `i`, and that it is `i - 1` once its lowest bit is cleared.
@@ -27,7 +26,7 @@ fn add(conditions: &mut Conditions, arena: &mut Arena, byte: Term, i: u32) -> Re
 }
 
 /// Whether the list is as before after each refusal, and has one condition more after each answer.
-fn stand_after_calls(alloc: Global) -> Result<bool, NoMemory> {
+pub(super) fn stand_after_calls(alloc: Global) -> Result<bool, NoMemory> {
     let mut arena = Arena::new(alloc)?;
     let byte = arena.input(0)?;
     let mut conditions = Conditions::new(alloc);
@@ -44,15 +43,4 @@ fn stand_after_calls(alloc: Global) -> Result<bool, NoMemory> {
         }
     }
     Ok(conditions.list() == seen.as_slice() && seen.len() == 100)
-}
-
-#[test]
-fn conditions_stand_after_each_call(rt: HostRuntime) -> Result<(), Fail> {
-    let alloc = rt.alloc();
-    let found = match stand_after_calls(alloc) {
-        Ok(found) => found,
-        Err(_) => stand_after_calls(alloc)?,
-    };
-    assert!(rt; found);
-    Ok(())
 }

@@ -8,7 +8,6 @@ use gate_net::{Gate, Lit, Net};
 use no_memory::NoMemory;
 use rv_word::AluOp;
 use std::alloc::Global;
-use std::test::Fail;
 use term_arena::{Arena, Op};
 
 /// Two bits of the input, both of them, and one of them alone.
@@ -65,7 +64,7 @@ fn another(net: &mut Net, a: Lit, last: Lit, i: u32) -> Result<Lit, NoMemory>
 }
 
 /// Whether gates stand after each refusal of a call that makes one. A refused choice may leave parts of it.
-fn stand_after_calls(alloc: Global) -> Result<bool, NoMemory> {
+pub(super) fn stand_after_calls(alloc: Global) -> Result<bool, NoMemory> {
     let mut net = Net::new(alloc)?;
     let known = make_first(&mut net)?;
     let mut last = known.a;
@@ -84,20 +83,9 @@ fn stand_after_calls(alloc: Global) -> Result<bool, NoMemory> {
     Ok(stand(&mut net, known))
 }
 
-#[test]
-fn gates_stand_after_each_call(rt: HostRuntime) -> Result<(), Fail> {
-    let alloc = rt.alloc();
-    let found = match stand_after_calls(alloc) {
-        Ok(found) => found,
-        Err(_) => stand_after_calls(alloc)?,
-    };
-    assert!(rt; found);
-    Ok(())
-}
-
 /// Whether gates stand after a refusal of a sum's bits. The lowest bit of a sum of two bytes is one of their lowest
 /// bits alone.
-fn stand_after_bits(alloc: Global) -> Result<bool, NoMemory> {
+pub(super) fn stand_after_bits(alloc: Global) -> Result<bool, NoMemory> {
     let mut arena = Arena::new(alloc)?;
     let first = arena.input(0)?;
     let second = arena.input(1)?;
@@ -116,15 +104,4 @@ fn stand_after_bits(alloc: Global) -> Result<bool, NoMemory> {
     let other = net.input_bit(1, 0)?;
     let lowest = net.xor(known.a, other)?;
     Ok(word[0] == lowest && stand(&mut net, known))
-}
-
-#[test]
-fn gates_stand_after_bits(rt: HostRuntime) -> Result<(), Fail> {
-    let alloc = rt.alloc();
-    let found = match stand_after_bits(alloc) {
-        Ok(found) => found,
-        Err(_) => stand_after_bits(alloc)?,
-    };
-    assert!(rt; found);
-    Ok(())
 }

@@ -1,6 +1,6 @@
 use Rattle.std.proofs.Common.{◌≤◌, length, arith}
 use Rattle.report_tests.proofs.Crash.{crash-of-image, length-of-run}
-use Rattle.report_tests.proofs.make.made_of_file.Goals as goal
+use Rattle.report_tests.proofs.tests.made_of.Goals as goal
 
 pub make_report-requires-clause-few : goal.make_report-requires-clause-few
 make_report-requires-clause-few c =
