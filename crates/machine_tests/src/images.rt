@@ -5,7 +5,7 @@ ghost use Rattle.elf32.specs.Segments.{total_size};
 
 use crate::files::{ACCEPTED, Change, FILE, Held, Row};
 use crate::linked::LINKED;
-use elf32::{Image, Segment, read_image};
+use elf32::{Image, Segment, read_image, read_symbols};
 use rv_assemble::{Bytes, Region};
 use std::alloc::Global;
 use std::test::Fail;
@@ -183,6 +183,58 @@ fn has_regions(alloc: Global) -> Result<bool, Fail> {
     is_built(alloc, &[EBREAK], regions.as_slice(), 187, &wanted)
 }
 
+/// A symbol table of an empty entry and of a function `f` of 4 bytes at 00010008, its names, and three section headers:
+/// none, the table at 96, and the names at 128.
+static SYMBOLS: [u32; 39] = [
+    0, 0, 0, 0, // no symbol
+    1, 0x0001_0008, 4, 0x12, // f
+    0x6600, // its name, between zeros
+    0, 0, 0, 0, 0, 0, 0, 0, 0, 0, // SHT_NULL
+    0, 2, 0, 0, 96, 32, 2, 0, 0, 0, // SHT_SYMTAB, whose names are those of section 2
+    0, 3, 0, 0, 128, 3, 0, 0, 0, 0, // SHT_STRTAB
+];
+
+/// A program whose section headers name a function.
+fn with_symbols(alloc: Global) -> Result<Vec<u8>, Fail> {
+    // jal x1,8; ebreak; ebreak
+    let file = program_file(alloc, &[0x0080_00ef, EBREAK, EBREAK], &[])?;
+    let mut bytes = file.as_slice().to_vec(alloc)?;
+    for word in &SYMBOLS {
+        bytes.extend_from_slice(&word.to_le_bytes())?;
+    }
+    put(bytes.as_mut_slice(), 32, 4, 132);
+    put(bytes.as_mut_slice(), 46, 2, 40);
+    put(bytes.as_mut_slice(), 48, 2, 3);
+    Ok(bytes)
+}
+
+/// Whether a file that is accepted has so many symbols, of which the first is `f`.
+fn has_symbols(alloc: Global, file: &[u8], count: usize) -> Result<bool, Fail> {
+    let _ = read_image(alloc, file)?;
+    let symbols = read_symbols(alloc, file)?;
+    if symbols.as_slice().len() != count {
+        return Ok(false);
+    }
+    match symbols.as_slice() {
+        [first, ..] => Ok(
+            first.value == 0x0001_0008 && first.size == 4 && first.name.as_slice() == b"f".as_slice(),
+        ),
+        [] => Ok(true),
+    }
+}
+
+/// Whether the symbols of a file are read, and none where a name has no end or there are no section headers.
+fn tells_symbols(alloc: Global) -> Result<bool, Fail> {
+    let file = with_symbols(alloc)?;
+    let mut endless = file.as_slice().to_vec(alloc)?;
+    put(endless.as_mut_slice(), 130, 1, 0x66);
+    Ok(
+        has_symbols(alloc, file.as_slice(), 1)?
+            && has_symbols(alloc, endless.as_slice(), 0)?
+            && has_symbols(alloc, &FILE, 0)?,
+    )
+}
+
 /// The first file that isn't read or built as it should be.
 fn first_wrong(alloc: Global) -> Result<Option<&'static str>, Fail> {
     let plain = program_file(alloc, &COMPARE, &[])?;
@@ -197,6 +249,9 @@ fn first_wrong(alloc: Global) -> Result<Option<&'static str>, Fail> {
     }
     if !has_regions(alloc)? {
         return Ok(Some("regions"));
+    }
+    if !tells_symbols(alloc)? {
+        return Ok(Some("symbols"));
     }
     if !is_built(alloc, &[], &[], 84, &[])? {
         return Ok(Some("no code"));
