@@ -16,12 +16,15 @@ What a sink and a folder in memory do is done by the system as far as it can:
                          short, and the next one fails with EFBIG; no room at all is /dev/full
     failing K            where read K is the first of its file, a folder is in the file's place: it opens, and its read
                          fails. A read in mid-file can't be made to fail: such rounds are left out (bench/failing.py has them)
-    reads N              the system gives what it gives; the answer is the same
+    reads N              the files are named pipes that are fed so many bytes at a time, the next ones when these were read;
+                         of files above 64 KiB the system gives what it gives
     course               how many pieces were written and what was opened isn't looked at
 A word that is no UTF-8 can't stand in a transcript: two such commands are run besides.
 """
 import argparse
+import array
 import collections
+import fcntl
 import hashlib
 import os
 import re
@@ -33,6 +36,9 @@ import struct
 import subprocess
 import sys
 import tempfile
+import termios
+import threading
+import time
 
 TOP = os.path.dirname(os.path.dirname(os.path.abspath(__file__)))
 USAGE = b"usage: crash_cli ACTION FIRST SECOND [--seed N] [--steps N] [--conflicts N]\n"
@@ -42,6 +48,8 @@ ROOM = 65_536
 # Where a file with little room begins, so that both streams end at one limit of the process.
 FRONT = 1 << 20
 SECONDS = 120
+# The longest file that is given in pieces.
+MOST = 65_536
 
 
 class Malformed(Exception):
@@ -285,6 +293,40 @@ def call(path, words, folder, room=None, err_room=None):
     return done.returncode, taken(out, done.stdout, room), taken(err, done.stderr, err_room)
 
 
+class Pipe(threading.Thread):
+    """A named pipe that gives bytes in pieces: the next one is written when the one before was read."""
+
+    def __init__(self, path, held, piece):
+        super().__init__(daemon=True)
+        self.path, self.held, self.piece = path, held, piece
+        os.mkfifo(path)
+        self.start()
+
+    def run(self):
+        end, unread = os.open(self.path, os.O_WRONLY), array.array("i", [0])
+        try:
+            for place in range(0, len(self.held), self.piece):
+                os.write(end, self.held[place:place + self.piece])
+                fcntl.ioctl(end, termios.FIONREAD, unread)
+                while unread[0] and not self.path_is_gone():
+                    time.sleep(0)
+                    fcntl.ioctl(end, termios.FIONREAD, unread)
+        except BrokenPipeError:
+            pass
+        finally:
+            os.close(end)
+
+    def path_is_gone(self):
+        return not os.path.exists(self.path)
+
+    def stop(self):
+        """Ends the thread, also where nobody opened the pipe, or read it to its end."""
+        end = os.open(self.path, os.O_RDONLY | os.O_NONBLOCK)
+        os.remove(self.path)
+        self.join()
+        os.close(end)
+
+
 class Run:
     """The files so far, what was tried, and what was left out."""
 
@@ -309,6 +351,23 @@ class Run:
             return
         with open(path, "wb") as file:
             file.write(held)
+
+    def put_all(self, case, names, folders, turn):
+        """Puts the files that a command names, and answers those that are pipes."""
+        pipes = []
+        for name in names:
+            held = self.files[name]
+            if case.piece is None or name in folders or len(held) > MOST:
+                self.put(name, None if name in folders else held)
+                continue
+            path = os.path.join(self.folder, name)
+            before = self.there.pop(name, self)
+            if before is None:
+                os.rmdir(path)
+            elif before is not self:
+                os.remove(path)
+            pipes.append(Pipe(path, held, max(1, case.piece.at(turn))))
+        return pipes
 
     def firsts(self, case, turn):
         """The number of each fetched file's first read, and of the first read after them all."""
@@ -359,13 +418,14 @@ class Run:
             return
         wanted = self.wanted(case, turn)
         words = [str(turn) if word == "*" else word for word in case.words]
-        for name in set(words) & set(self.files):
-            self.put(name, None if name in folders else self.files[name])
+        pipes = self.put_all(case, set(words) & set(self.files), folders, turn)
         room = case.room.at(turn) if case.room else None
         err_room = case.err_room.at(turn) if case.err_room else None
         # Room that is enough is a pipe's.
         rooms = (room if room is not None and wanted[0] == 4 else None, err_room if err_room is not None and err_room < len(wanted[2]) else None)
         said = call(self.path, words, self.folder, *rooms)
+        for pipe in pipes:
+            pipe.stop()
         if case.course:
             self.left["a course isn't looked at"] += 1
         if not self.holds(case, said, wanted, rooms):
