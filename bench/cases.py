@@ -96,7 +96,7 @@ class Case:
         self.out = self.digest = self.save = self.course = self.piece = self.room = self.err_room = None
         self.failing = []
 
-    def add(self, line):
+    def add(self, line, _):
         if line == "|" or line.startswith("| "):
             self.lines.append(line[2:])
             return
@@ -142,8 +142,8 @@ class NewFile:
     def __init__(self, line, name):
         self.line, self.name, self.steps = line, name, []
 
-    def add(self, line):
-        self.steps.append(line)
+    def add(self, line, number):
+        self.steps.append((number, line))
 
 
 def program(words, regions):
@@ -162,10 +162,12 @@ def code_of(rest, words):
     for word in rest.split():
         if word.startswith("#"):
             return
-        if word.startswith("x"):
+        if re.fullmatch("x[0-9]+", word) and words:
             words += words[-1:] * (int(word[1:]) - 1)
-        else:
+        elif re.fullmatch("[0-9a-f]{1,8}", word):
             words.append(int(word, 16))
+        else:
+            raise Malformed("bytes in hexadecimal are wanted")
 
 
 def changed_line(held, number, text):
@@ -176,47 +178,53 @@ def changed_line(held, number, text):
     return b"\n".join(lines)
 
 
+def plain_step(word, rest, held, files, turn):
+    """The bytes after a step that is neither code nor a region."""
+    if word == "|":
+        return held + rest.encode() + b"\n"
+    if word == "hex":
+        return held + hexadecimal(rest)
+    if word == "text":
+        return held + rest.encode()
+    if word == "fill":
+        count, byte = split(rest)
+        return held + hexadecimal(byte) * Number(count).at(turn)
+    if word == "copy":
+        if rest not in files:
+            raise Malformed("no file of this name stands before")
+        return held + files[rest]
+    if word == "keep":
+        return held[:Number(rest).at(turn)]
+    if word not in ("at", "line"):
+        raise Malformed("no such part of a file")
+    place, more = split(rest)
+    place = Number(place).at(turn)
+    if word == "at":
+        more = hexadecimal(more)
+        if place + len(more) > len(held):
+            raise Malformed("the file has no such place or line")
+        return held[:place] + more + held[place + len(more):]
+    return changed_line(held, place, more)
+
+
 def bytes_of(new, files, turn):
     """The bytes of a file, by its steps."""
     held, words, regions = b"", [], []
-    for step in [*new.steps, "text "]:
+    for number, step in [*new.steps, (new.line, "text ")]:
         word, rest = split(step)
-        if word == "code":
-            code_of(rest, words)
-            continue
-        if word == "region":
-            base, size, rights, *more = rest.split()
-            regions.append((int(base, 16), int(size), int(rights), hexadecimal("".join(more))))
-            continue
-        if words:
-            held += program(words, regions)
-            words, regions = [], []
-        if step == "|" or word == "|":
-            held += step[2:].encode() + b"\n"
-        elif word == "hex":
-            held += hexadecimal(rest)
-        elif word == "text":
-            held += rest.encode()
-        elif word == "fill":
-            count, byte = split(rest)
-            held += hexadecimal(byte) * Number(count).at(turn)
-        elif word == "copy":
-            if rest not in files:
-                raise Malformed("no file of this name stands before")
-            held += files[rest]
-        elif word == "keep":
-            held = held[:Number(rest).at(turn)]
-        elif word == "at":
-            place, more = split(rest)
-            place, more = Number(place).at(turn), hexadecimal(more)
-            if place + len(more) > len(held):
-                raise Malformed("the file has no such place or line")
-            held = held[:place] + more + held[place + len(more):]
-        elif word == "line":
-            number, text = split(rest)
-            held = changed_line(held, Number(number).at(turn), text)
-        else:
-            raise Malformed("no such part of a file")
+        try:
+            if word == "code":
+                code_of(rest, words)
+            elif word == "region":
+                base, size, rights, *more = rest.split()
+                regions.append((int(base, 16), int(size), int(rights), hexadecimal("".join(more))))
+            else:
+                if words:
+                    held += program(words, regions)
+                    words, regions = [], []
+                held = plain_step(word, rest, held, files, turn)
+        except (Malformed, ValueError) as problem:
+            raise Malformed("line %d: %s" % (number, problem if isinstance(problem, Malformed) else "a number is wanted"))
     return held
 
 
@@ -235,7 +243,7 @@ def sections(text):
                 name, first = split(rest)
                 items.append(NewFile(number, name))
                 if first:
-                    items[-1].add(first)
+                    items[-1].add(first, number)
             elif word == "$":
                 items.append(Case(number, title, rest))
             elif word in ("each", "end"):
@@ -245,13 +253,13 @@ def sections(text):
                 first, _, last = rest.partition("..")
                 span, items = (int(first), int(last or first)) if word == "each" else None, []
             elif items:
-                items[-1].add(line)
+                items[-1].add(line, number)
             else:
                 raise Malformed("neither a file, a case, a command nor a loop")
         if span is not None:
-            raise Malformed("a loop without its end")
-    except (Malformed, ValueError, IndexError) as problem:
-        raise Malformed("line %d: %s" % (number, problem))
+            raise Malformed("a loop within a loop, or an end without one")
+    except (Malformed, ValueError) as problem:
+        raise Malformed("line %d: %s" % (number, problem if isinstance(problem, Malformed) else "a number is wanted"))
     return [*done, ((0, 0), items)]
 
 
@@ -440,10 +448,7 @@ class Run:
             for turn in range(first, last + 1):
                 for item in items:
                     if isinstance(item, NewFile):
-                        try:
-                            self.files[item.name] = bytes_of(item, self.files, turn)
-                        except (Malformed, ValueError, IndexError) as problem:
-                            raise Malformed("line %d: %s" % (item.line, problem))
+                        self.files[item.name] = bytes_of(item, self.files, turn)
                     elif item.save or self.span[0] <= item.line <= self.span[1]:
                         self.try_case(item, turn)
 
