@@ -5,6 +5,7 @@ With --check nothing is written, and the status is 1 where LAYER1.md isn't what 
 import re
 import sys
 
+sys.dont_write_bytecode = True
 from definitions import TOP, definitions, sections
 
 # The Rust types that a part needs, each with its file.
