@@ -60,7 +60,9 @@ def definitions(path):
 
 
 def sections():
-    """The sections of THEOREM.md that count definitions: heading, the two numbers, and the rows (crate, file, path, names, words)."""
+    """The sections of THEOREM.md that count definitions: heading, the two numbers, and the rows (crate, file, path, names, words).
+
+    A name with a link behind it stands in that file."""
     found, heading = [], ""
     for line in (TOP / "docs/THEOREM.md").read_text().splitlines():
         if line.startswith("## "):
@@ -68,6 +70,17 @@ def sections():
         if (counts := SECTION.match(line)) is not None:
             found.append((heading, int(counts[1]), int(counts[2]), []))
         if found and found[-1][0] == heading and (row := ROW.match(line)) is not None:
-            names = re.findall(r"`([^`]+)`", row[4])
-            found[-1][3].append((row[1], row[2], (TOP / "docs" / row[3]).resolve(), names, row[5]))
+            place, elsewhere = (TOP / "docs" / row[3]).resolve(), re.findall(r"`([^`]+)` \(\[\w+\]\((\S+?)\)\)", row[4])
+            names = [it for it in re.findall(r"`([^`]+)`", row[4]) if it not in dict(elsewhere)]
+            found[-1][3].append((row[1], row[2], place, names, row[5]))
+            for name, link in elsewhere:
+                at = (TOP / "docs" / link).resolve()
+                found[-1][3].append((at.parent.parent.name, at.stem, at, [name], row[5]))
     return found
+
+
+def rust_types():
+    """The Rust types that THEOREM.md names behind layer 1, each with its crate."""
+    text = (TOP / "docs/THEOREM.md").read_text()
+    line = re.search(r"(?m)^Rust types: (.*)$", text)[1]
+    return [(crate, name) for part, crate in re.findall(r"([^()]*)\((\w+)\)", line) for name in re.findall(r"`(\w+)`", part)]

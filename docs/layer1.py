@@ -6,19 +6,7 @@ import re
 import sys
 
 sys.dont_write_bytecode = True
-from definitions import TOP, definitions, sections
-
-# The Rust types that a part needs, each with its file.
-TYPES = {
-    "crash_tool/Outcome": ["crash_tool/answer Answer Refusal Role", "crash_tool/words Options", "rv_event/transcript Transcript",
-                           "rv_event/event End Trap TrapKind Event EventKind"],
-    "crash_tool/Words": ["crash_tool/words Action", "rv_assemble/demo DemoKind"],
-    "elf32/Loads": ["elf32/segments Segment"],
-    "elf32/Rules": ["elf32/error ElfError"],
-    "elf32/Fields": ["elf32/header Header"],
-    "rv_decode/Table": ["rv_decode/instr Instr Cond Width"],
-    "rv_word/Word": ["rv_word/lib AluOp"],
-}
+from definitions import TOP, definitions, rust_types, sections
 
 HEAD = """# Layer 1 as one text
 
@@ -28,12 +16,21 @@ This file is made by [layer1.py](layer1.py) from the files that it names, withou
 """
 
 
-def rust_type(at, name):
-    """A public type with its comments, as it stands in its file, without its attributes."""
-    crate, file = at.split("/")
-    text = (TOP / "crates" / crate / "src" / f"{file}.rt").read_text()
-    found = re.search(rf"(?m)^((?:///.*\n|#\[.*\n)*)pub (?:enum|struct) {name}\b[\s\S]*?^\}}\n", text)
-    return "".join(it + "\n" for it in found[0].splitlines() if not it.strip().startswith("#["))
+def rust_type(crate, name):
+    """A public type with its comments, as it stands in its crate, without its attributes; nothing for a type that contracts see otherwise."""
+    for path in sorted((TOP / "crates" / crate / "src").rglob("*.rt")):
+        text = path.read_text()
+        found = re.search(rf"(?m)^((?:///.*\n|#\[.*\n)*)pub (?:enum|struct) {name}\b[\s\S]*?^\}}\n", text)
+        if found and f"impl Model for {name} " not in text:
+            return "".join(it + "\n" for it in found[0].splitlines() if not it.strip().startswith("#["))
+    return ""
+
+
+def with_parts(crate, name, shown):
+    """The type, and behind it the types of its crate that it is made of, each once."""
+    text = "" if (crate, name) in shown else rust_type(crate, name)
+    shown.add((crate, name))
+    return ([text] if text else []) + [more for it in re.findall(r"[:(<\[]\s*([A-Z]\w+)", re.sub(r"//.*", "", text)) for more in with_parts(crate, it, shown)]
 
 
 def words_of(head):
@@ -42,15 +39,16 @@ def words_of(head):
 
 def layer():
     _, count, lines, rows = sections()[0]
-    out = [HEAD.format(count=count, lines=lines)]
+    out, shown = [HEAD.format(count=count, lines=lines)], set()
     for number, (crate, file, path, names, words) in enumerate(rows, 1):
         head, found = definitions(path)
         place = path.relative_to(TOP)
         out.append(f"## {number}. [{crate}/{file}](../{place})\n")
         out.append((f"{words_of(head)} " if head else "") + words[:1].upper() + words[1:] + ".\n")
-        for types in TYPES.get(f"{crate}/{file}", []):
-            at, *wanted = types.split()
-            out.append("```rust\n" + "\n".join(rust_type(at, it) for it in wanted) + "```\n")
+        cited = re.findall(r"\.declared\.[\w.]*?\.?([A-Z]\w*)\b", path.read_text())
+        types = [more for of, it in rust_types() if it in cited for more in with_parts(of, it, shown)]
+        if types:
+            out.append("```rust\n" + "\n".join(types) + "```\n")
         body = [("\n".join(it.comments) + "\n" if it.comments else "") + it.text() for it in found if it.name in names]
         out.append("```\n" + "\n\n".join(body) + "\n```\n")
     return "\n".join(out)
