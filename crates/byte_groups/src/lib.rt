@@ -1,7 +1,15 @@
-//! Conditions divided into groups: the finest division of the places that they read in which each
-//! condition's places lie in one group.
+//! Conditions divided into groups: the finest division of the places that they read in which each condition's places
+//! lie in one group. Contracts see a `GroupList` as a list of groups.
 //!
-//! Contracts see a `GroupList` as a list of groups.
+//! Union and find (Galler and Fischer, CACM 7(5), 1964). The terms under the conditions are taken once each, operands
+//! before operations, and for each a place that it reads is kept (`leaves_of`). An operation joins those of its two
+//! operands (`join_operands`), so no term needs a list of its places. Of two joined roots the higher points to the
+//! lower, paths are halved, and at the end each place is labelled by the lowest of its group. Places and conditions
+//! are then put in lists by their labels (`gathered`, `dealt`).
+//!
+//! Invariant (`AreParents`, `AreLabels`): each place points to itself or to a lower place, and at the end a test
+//! gives one answer along these pointers exactly where it gives one on the places of each term. So nothing is joined
+//! that needn't be.
 #![tactic(auto)]
 
 mod assembled;
