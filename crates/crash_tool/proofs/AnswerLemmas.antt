@@ -8,10 +8,10 @@ use Rattle.crash_tool.specs.declared.answer.Refusal.{Refusal}
 use Rattle.crash_tool.specs.declared.answer.Refusal.TheVariants.{TooLong, CannotRead}
 use Rattle.crash_tool.specs.declared.answer.Role.{Role}
 use Rattle.crash_tool.specs.declared.answer.Role.TheVariants.{Program, Input}
-use Rattle.crash_tool.specs.declared.words.Action.{Action}
-use Rattle.crash_tool.specs.declared.words.Action.TheVariants.{Make, Check}
-use Rattle.crash_tool.specs.declared.words.Options.{Options}
-use Rattle.crash_tool.specs.Words.{Task}
+use Rattle.tool_words.specs.declared.words.Action.{Action}
+use Rattle.tool_words.specs.declared.words.Action.TheVariants.{Make, Check}
+use Rattle.tool_words.specs.declared.words.Options.{Options}
+use Rattle.tool_words.specs.Words.{Task}
 use Rattle.crash_tool.specs.Outcome.{outcome, transcript_under}
 use Rattle.crash_tool.specs.Answers.{limit_of, read_of, role_of, IsAnswerOf, IsOfSecond, IsOfProgram, IsDone}
 use Rattle.crash_tool.specs.Received.{IsAccepted}

@@ -9,10 +9,10 @@ use Rattle.crash_tool.specs.declared.answer.Refusal.{Refusal}
 use Rattle.crash_tool.specs.declared.answer.Refusal.TheVariants.{NoMemory, Usage, CannotRead, TooLong, NotAProgram, NoCrash, StillRunning, Spent, NotAReport, WrongProgram, Differs}
 use Rattle.crash_tool.specs.declared.answer.Answer.{Answer}
 use Rattle.crash_tool.specs.declared.answer.Answer.TheVariants.{Text, Refused}
-use Rattle.crash_tool.specs.declared.words.Action.{Action}
-use Rattle.crash_tool.specs.declared.words.Action.TheVariants.{Make, Run, Replay, Check}
+use Rattle.tool_words.specs.declared.words.Action.{Action}
+use Rattle.tool_words.specs.declared.words.Action.TheVariants.{Make, Run, Replay, Check}
 use Rattle.crash_tool.specs.Refusals.{status_of, line_of, write_line, status, out_of, err_of, IsLineOf}
-use Rattle.crash_tool.specs.Words.{Task, Asked, OnFiles, OnDemo, make_by, make_in, task_in}
+use Rattle.tool_words.specs.Words.{Task, Asked, OnFiles, OnDemo, make_by, make_in, task_in}
 use Rattle.crash_tool.specs.Outcome.{outcome, transcript_under}
 use Rattle.crash_tool.specs.Answers.{IsDone, IsAnswerTo, files_for}
 use Rattle.crash_tool.specs.Received.{IsAccepted}

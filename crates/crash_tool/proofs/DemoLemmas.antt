@@ -9,7 +9,7 @@ use Rattle.rv_assemble.specs.declared.demo.DemoKind.{DemoKind}
 use Rattle.report_format.specs.Text.{Content, revealed_line, joined}
 use Rattle.replay_law.specs.Crash.{IsCrash}
 use Rattle.report_laws.specs.Made.{spent_of, report_of, number_of_groups, number_of_conflicts}
-use Rattle.crash_tool.specs.declared.words.Options.{Options}
+use Rattle.tool_words.specs.declared.words.Options.{Options}
 use Rattle.crash_tool.specs.declared.answer.Answer.{Answer}
 use Rattle.crash_tool.specs.declared.answer.Answer.TheVariants.{Text, Refused}
 use Rattle.crash_tool.specs.declared.answer.Refusal.TheVariants.{Spent}

@@ -6,10 +6,10 @@ use Rattle.report_format.specs.Reading.{FailsAt}
 use Rattle.crash_tool.specs.declared.answer.Refusal.{Refusal}
 use Rattle.crash_tool.specs.declared.answer.Role.TheVariants.{Program}
 use Rattle.crash_tool.specs.declared.answer.Answer.{Answer}
-use Rattle.crash_tool.specs.declared.words.Action.{Action}
-use Rattle.crash_tool.specs.declared.words.Action.TheVariants.{Make, Run, Replay, Check}
-use Rattle.crash_tool.specs.declared.words.Options.{Options}
-use Rattle.crash_tool.specs.Words.{Task, Asked, OnFiles, OnDemo}
+use Rattle.tool_words.specs.declared.words.Action.{Action}
+use Rattle.tool_words.specs.declared.words.Action.TheVariants.{Make, Run, Replay, Check}
+use Rattle.tool_words.specs.declared.words.Options.{Options}
+use Rattle.tool_words.specs.Words.{Task, Asked, OnFiles, OnDemo}
 use Rattle.crash_tool.specs.Demo.{IsDemoAnswer, demo_of}
 use Rattle.rv_decode.specs.declared.instr.Instr.{Instr}
 use Rattle.rv_assemble.specs.declared.region.Region.{Region}

@@ -16,7 +16,7 @@ use Rattle.report_laws.specs.Made.{spent_of, report_of}
 use Rattle.rv_event.specs.declared.event.Trap.{Trap}
 use Rattle.rv_event.specs.declared.event.End.{End}
 use Rattle.rv_event.specs.declared.event.End.TheVariants as ends
-use Rattle.crash_tool.specs.declared.words.Options.{Options}
+use Rattle.tool_words.specs.declared.words.Options.{Options}
 use Rattle.crash_tool.specs.declared.answer.Answer.{Answer}
 use Rattle.crash_tool.specs.declared.answer.Answer.TheVariants.{Text, Refused}
 use Rattle.crash_tool.specs.declared.answer.Refusal.TheVariants.{NotAProgram, Spent}

@@ -16,7 +16,7 @@ use Rattle.receiver_replay.specs.Received.{is_its_program, program_refusal, unle
 use Rattle.crash_tool.specs.declared.answer.Answer.{Answer}
 use Rattle.crash_tool.specs.declared.answer.Answer.TheVariants.{Text, Refused}
 use Rattle.crash_tool.specs.declared.answer.Refusal.TheVariants.{NotAReport}
-use Rattle.crash_tool.specs.declared.words.Options.{Options}
+use Rattle.tool_words.specs.declared.words.Options.{Options}
 use Rattle.crash_tool.specs.RunText.{run_text}
 use Rattle.crash_tool.specs.Outcome.{transcript_under}
 use Rattle.crash_tool.specs.Answers.{run_answer}

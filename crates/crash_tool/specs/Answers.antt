@@ -10,10 +10,10 @@ use Rattle.crash_tool.specs.declared.answer.Refusal.{Refusal}
 use Rattle.crash_tool.specs.declared.answer.Refusal.TheVariants.{Usage, CannotRead, TooLong, NotAProgram}
 use Rattle.crash_tool.specs.declared.answer.Answer.{Answer}
 use Rattle.crash_tool.specs.declared.answer.Answer.TheVariants.{Text, Refused}
-use Rattle.crash_tool.specs.declared.words.Action.{Action}
-use Rattle.crash_tool.specs.declared.words.Action.TheVariants.{Make, Run, Replay, Check}
-use Rattle.crash_tool.specs.declared.words.Options.{Options}
-use Rattle.crash_tool.specs.Words.{Task, Asked, OnFiles, OnDemo}
+use Rattle.tool_words.specs.declared.words.Action.{Action}
+use Rattle.tool_words.specs.declared.words.Action.TheVariants.{Make, Run, Replay, Check}
+use Rattle.tool_words.specs.declared.words.Options.{Options}
+use Rattle.tool_words.specs.Words.{Task, Asked, OnFiles, OnDemo}
 use Rattle.crash_tool.specs.Outcome.{outcome, transcript_under}
 use Rattle.crash_tool.specs.RunText.{run_text}
 use Rattle.crash_tool.specs.Received.{IsByReading, replay_answer, check_answer}

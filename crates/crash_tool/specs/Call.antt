@@ -7,8 +7,8 @@ use Rattle.crash_tool.specs.declared.answer.Refusal.TheVariants.{NoMemory, Usage
 use Rattle.crash_tool.specs.declared.answer.Answer.{Answer}
 use Rattle.crash_tool.specs.declared.answer.Answer.TheVariants.{Text, Refused}
 use Rattle.fault_io.specs.Files.{Files}
-use Rattle.crash_tool.specs.declared.words.Action.TheVariants.{Check}
-use Rattle.crash_tool.specs.Words.{Task}
+use Rattle.tool_words.specs.declared.words.Action.TheVariants.{Check}
+use Rattle.tool_words.specs.Words.{Task}
 use Rattle.crash_tool.specs.Received.{IsAccepted}
 use Rattle.crash_tool.specs.Refusals.{IsGiven, status_of, line_of, write_line, status, out_of, err_of}
 

@@ -15,7 +15,7 @@ use Rattle.report_laws.specs.Made.{report_of, number_of_groups, number_of_confli
 use Rattle.crash_tool.specs.declared.answer.Refusal.TheVariants.{NoCrash, StillRunning, Spent}
 use Rattle.crash_tool.specs.declared.answer.Answer.{Answer}
 use Rattle.crash_tool.specs.declared.answer.Answer.TheVariants.{Text, Refused}
-use Rattle.crash_tool.specs.declared.words.Options.{Options}
+use Rattle.tool_words.specs.declared.words.Options.{Options}
 use Rattle.crash_tool.specs.Outcome.{transcript_under}
 
 abbrev pub kind_line : DemoKind → List ℕ

@@ -17,7 +17,7 @@ use Rattle.crash_tool.specs.declared.answer.Refusal.{Refusal}
 use Rattle.crash_tool.specs.declared.answer.Refusal.TheVariants.{TooLong, NotAProgram, NoCrash, StillRunning, Spent}
 use Rattle.crash_tool.specs.declared.answer.Answer.{Answer}
 use Rattle.crash_tool.specs.declared.answer.Answer.TheVariants.{Text, Refused}
-use Rattle.crash_tool.specs.declared.words.Options.{Options}
+use Rattle.tool_words.specs.declared.words.Options.{Options}
 
 -- of a run that ended in a trap, by the first group of bytes that spends the conflicts
 abbrev pub by_spent : List ℕ → Options → Transcript → Trap → Option (ℕ × ℕ) → Answer

@@ -12,7 +12,7 @@ use Rattle.crash_tool.specs.declared.answer.Refusal.{Refusal}
 use Rattle.crash_tool.specs.declared.answer.Refusal.TheVariants.{NoMemory, NotAProgram, NoCrash, StillRunning, Spent, NotAReport, WrongProgram, Differs}
 use Rattle.crash_tool.specs.declared.answer.Answer.{Answer}
 use Rattle.crash_tool.specs.declared.answer.Answer.TheVariants.{Text, Refused}
-use Rattle.crash_tool.specs.declared.words.Options.{Options}
+use Rattle.tool_words.specs.declared.words.Options.{Options}
 use Rattle.crash_tool.specs.RunText.{run_text}
 
 -- what bytes say as the text of a report, or the line at which they are none

@@ -11,11 +11,10 @@ ghost use Rattle.report_format.specs.Text.{content_of, revealed_line, joined};
 ghost use Rattle.crash_tool.specs.declared.answer.Answer.TheVariants.{Text};
 ghost use Rattle.crash_tool.specs.Outcome.{IsRunOf};
 ghost use Rattle.crash_tool.specs.Demo.{kind_line, case_lines, cost_lines, summary, demo_by_trap, demo_by_end, demo_of, IsDemoAnswer};
-ghost use Rattle.crash_tool.specs.Words.{AreWithin};
+ghost use Rattle.tool_words.specs.Words.{AreWithin};
 ghost use Rattle.crash_tool.specs.Call.{IsOfFiles};
 
 use crate::answer::{Answer, Refusal};
-use crate::words::Options;
 use byte_sets::revealed;
 use elf32::{Image, read_image};
 use no_memory::NoMemory;
@@ -26,6 +25,7 @@ use rv_assemble::{DemoKind, demo_case};
 use rv_event::{End, Transcript, Trap};
 use rv_machine::trace_of;
 use std::alloc::{AllocError, Global};
+use tool_words::Options;
 
 /// The line of a kind.
 fn kind_line(kind: DemoKind) -> &'static str

@@ -5,8 +5,8 @@ ghost use Rattle.fault_io.specs.Files.{Files};
 ghost use Rattle.elf32.specs.Loads.{loaded_program};
 ghost use Rattle.report_laws.specs.Made.{first_input};
 ghost use Rattle.crash_tool.specs.declared.answer.Answer.{Answer};
-ghost use Rattle.crash_tool.specs.declared.words.Options.{Options};
-ghost use Rattle.crash_tool.specs.Words.{Asked};
+ghost use Rattle.tool_words.specs.declared.words.Options.{Options};
+ghost use Rattle.tool_words.specs.Words.{Asked};
 ghost use Rattle.crash_tool.specs.Answers.{IsAnswerTo};
 ghost use Rattle.crash_tool.specs.Outcome.{outcome, transcript_under};
 

@@ -4,7 +4,6 @@
 #![tactic(auto)]
 
 pub mod answer;
-mod command;
 mod demo;
 pub mod laws;
 mod outcome;
@@ -13,6 +12,3 @@ mod run_text;
 pub mod say;
 pub mod tool;
 mod watched_run;
-pub mod words;
-
-pub use command::WordsError;

@@ -6,11 +6,10 @@ ghost use Rattle.rv_event.specs.declared.event.End.TheVariants as ends;
 ghost use Rattle.crash_tool.specs.declared.answer.Answer.TheVariants.{Refused};
 ghost use Rattle.crash_tool.specs.declared.answer.Refusal.TheVariants.{NotAProgram};
 ghost use Rattle.crash_tool.specs.Outcome.{outcome, transcript_under, IsRunOf, by_trap, by_end};
-ghost use Rattle.crash_tool.specs.Words.{AreWithin};
+ghost use Rattle.tool_words.specs.Words.{AreWithin};
 ghost use Rattle.crash_tool.specs.Call.{IsOfFiles};
 
 use crate::answer::{Answer, Refusal};
-use crate::words::Options;
 use elf32::{ElfError, Image, read_image};
 use no_memory::NoMemory;
 use report_format::write_report;
@@ -18,6 +17,7 @@ use report_maker::{MakeError, make_report};
 use rv_event::{End, Transcript, Trap};
 use rv_machine::trace_of;
 use std::alloc::{AllocError, Global};
+use tool_words::Options;
 
 /// The report of a run that ended in a trap, or the first group that spends the conflicts.
 fn by_trap(

@@ -9,18 +9,18 @@ ghost use Rattle.crash_tool.specs.RunText.{run_text};
 ghost use Rattle.crash_tool.specs.Answers.{run_answer};
 ghost use Rattle.crash_tool.specs.Outcome.{transcript_under};
 ghost use Rattle.crash_tool.specs.Received.{IsByReading, refusal_of, replay_answer, check_answer, check_line, IsAccepted};
-ghost use Rattle.crash_tool.specs.Words.{AreWithin};
+ghost use Rattle.tool_words.specs.Words.{AreWithin};
 ghost use Rattle.crash_tool.specs.Call.{IsOfFiles};
 
 use crate::answer::{Answer, Refusal};
 use crate::outcome::refuse_rule;
 use crate::run_text::tell_run;
-use crate::words::Options;
 use elf32::read_image;
 use no_memory::NoMemory;
 use receiver_replay::{ReceiveError, check_report, replay_report};
 use report_format::{Bytes, ReadError, Report, read_report};
 use std::alloc::{AllocError, Global};
+use tool_words::Options;
 
 /// The run of a program on an input, however it ends.
 pub fn run(

@@ -7,7 +7,7 @@ ghost use Rattle.report_format.specs.Text.{Content};
 ghost use Rattle.report_format.specs.Reading.{IsTextOf};
 ghost use Rattle.receiver_replay.specs.Right.{IsRight};
 ghost use Rattle.crash_tool.specs.Refusals.{out_of, err_of, IsLineOf, IsGiven};
-ghost use Rattle.crash_tool.specs.Words.{make_of, asked_of, task_of, task_value, AreWithin};
+ghost use Rattle.tool_words.specs.Words.{make_of, asked_of, task_of, task_value, AreWithin};
 ghost use Rattle.crash_tool.specs.Demo.{IsDemoAnswer};
 ghost use Rattle.crash_tool.specs.Outcome.{outcome, transcript_under};
 ghost use Rattle.crash_tool.specs.Received.{IsAccepted};
@@ -17,16 +17,15 @@ ghost use Rattle.crash_tool.specs.Call.{OfRight, IsReadFault, IsRightBut, IsRead
 ghost use Rattle.crash_tool.specs.Call.{IsReceived};
 
 use crate::answer::{Answer, Refusal, Role};
-use crate::command::WordsError;
 use crate::demo::demo;
 use crate::outcome::outcome;
 use crate::receiver::{check, replay, run};
 use crate::say::say;
-use crate::words::{Action, Asked, Options, Task, read_words};
 use fault_io::{Bytes, FetchFault, Fetched, Folder, Sink};
 use no_memory::NoMemory;
 use rv_assemble::DemoKind;
 use std::alloc::Global;
+use tool_words::{Action, Asked, Options, Task, WordsError, read_words};
 
 /// The most bytes of a file.
 fn limit_of(role: Role) -> u32

@@ -1,5 +1,5 @@
 use Rattle.std.proofs.Common.{arith}
-use Rattle.crash_tool.specs.Words.{task_value}
+use Rattle.tool_words.specs.Words.{task_value}
 use Rattle.crash_tool.proofs.AnswerLemmas.{second-refused}
 use Rattle.crash_tool.proofs.tool.answer_task.Goals as goal
 

@@ -3,7 +3,7 @@
 ghost use Rattle.std.specs.Prelude.{◌≡◌, ◌≢◌, ◌⊎◌, ◌↔◌, map, Some, None, IfOk, IfErr, option_map};
 ghost use Rattle.std.specs.String.{string_bytes};
 ghost use Rattle.clap.specs.Words.{app_of, found_of, kind_of, rows_of, first_of, with_rule};
-ghost use Rattle.crash_tool.specs.Words.{tool, bare, text_rule, option_rule, texts_of, texts_in, raw_texts};
+ghost use Rattle.tool_words.specs.Words.{tool, bare, text_rule, option_rule, texts_of, texts_in, raw_texts};
 
 use clap::error::ErrorKind;
 use clap::{Arg, ArgMatches, Command, Error};

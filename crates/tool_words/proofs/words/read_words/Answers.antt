@@ -1,9 +1,9 @@
 use Rattle.std.proofs.Common.{◌≡◌, ◌⊎◌, ◌∙◌, inl, inr, ap, sym, refl, List, ℕ, Option, None}
 use Rattle.std.proofs.lemmas.Result.{err_from_is_err_and}
-use Rattle.crash_tool.specs.Words.{texts_of, asked_in, asked_of}
-use Rattle.crash_tool.specs.declared.command.WordsError.{WordsError}
-use Rattle.crash_tool.specs.declared.command.WordsError.TheVariants.{NoMemory, Usage}
-use Rattle.crash_tool.proofs.words.read_words.Goals as goal
+use Rattle.tool_words.specs.Words.{texts_of, asked_in, asked_of}
+use Rattle.tool_words.specs.declared.command.WordsError.{WordsError}
+use Rattle.tool_words.specs.declared.command.WordsError.TheVariants.{NoMemory, Usage}
+use Rattle.tool_words.proofs.words.read_words.Goals as goal
 
 -- words that give no texts ask for nothing
 asks_nothing : (words : List (List ℕ)) (e : WordsError) → (e ≡ NoMemory) ⊎ ((e ≡ Usage) × (texts_of words ≡ None)) → (e ≡ NoMemory) ⊎ ((e ≡ Usage) × (asked_of words ≡ None))

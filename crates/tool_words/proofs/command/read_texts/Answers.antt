@@ -1,7 +1,7 @@
 use Rattle.std.proofs.Common.{refl, inl, inr, Some, None}
-use Rattle.crash_tool.specs.Words.{raw_texts}
-use Rattle.crash_tool.proofs.CommandLemmas.{parse_Ok, parse_Err}
-use Rattle.crash_tool.proofs.command.read_texts.Goals as goal
+use Rattle.tool_words.specs.Words.{raw_texts}
+use Rattle.tool_words.proofs.CommandLemmas.{parse_Ok, parse_Err}
+use Rattle.tool_words.proofs.command.read_texts.Goals as goal
 
 pub returns-in-Some-clause-read : goal.returns-in-Some-clause-read
 returns-in-Some-clause-read c =

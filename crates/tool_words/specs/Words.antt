@@ -5,13 +5,13 @@ use Rattle.std.specs.Str.Parse.{digits_value}
 use Rattle.std.specs.Fmt.{decimal}
 use Rattle.clap.specs.Words.{App, Rule, Row, Kinds, first_of, matches_of, fault_of, new_app, new_rule, with_rule}
 use Rattle.clap.specs.Simple.{on_top}
-use Rattle.crash_tool.specs.declared.command.Raw.{Raw}
-use Rattle.crash_tool.specs.declared.words.Action.{Action}
-use Rattle.crash_tool.specs.declared.words.Action.TheVariants.{Make, Run, Replay, Check}
-use Rattle.crash_tool.specs.declared.words.Options.{Options}
-use Rattle.crash_tool.specs.declared.words.Task.{Task as RawTask}
-use Rattle.crash_tool.specs.declared.words.Asked.{Asked as RawAsked}
-use Rattle.crash_tool.specs.declared.words.Asked.TheVariants as raw
+use Rattle.tool_words.specs.declared.command.Raw.{Raw}
+use Rattle.tool_words.specs.declared.words.Action.{Action}
+use Rattle.tool_words.specs.declared.words.Action.TheVariants.{Make, Run, Replay, Check}
+use Rattle.tool_words.specs.declared.words.Options.{Options}
+use Rattle.tool_words.specs.declared.words.Task.{Task as RawTask}
+use Rattle.tool_words.specs.declared.words.Asked.{Asked as RawAsked}
+use Rattle.tool_words.specs.declared.words.Asked.TheVariants as raw
 use Rattle.rv_assemble.specs.declared.demo.DemoKind.{DemoKind}
 use Rattle.rv_assemble.specs.declared.demo.DemoKind.TheVariants.{Single, Triple}
 

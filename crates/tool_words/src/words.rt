@@ -2,8 +2,8 @@
 
 ghost use Rattle.std.specs.Prelude.{◌≡◌, ◌≤◌, ◌⊎◌, map, Some, None, IfSome, IfOk, IfErr, option_map};
 ghost use Rattle.std.specs.String.{string_bytes};
-ghost use Rattle.crash_tool.specs.Words.{raw_texts, number_or, options_of, action_of, kind_of, asked_in, asked_of, asked_value, options_asked};
-ghost use Rattle.crash_tool.specs.Words.{AreWithin, IsSized};
+ghost use Rattle.tool_words.specs.Words.{raw_texts, number_or, options_of, action_of, kind_of, asked_in, asked_of, asked_value, options_asked};
+ghost use Rattle.tool_words.specs.Words.{AreWithin, IsSized};
 
 use crate::command::{Raw, WordsError, read_texts};
 use decimal_text::read_decimal;

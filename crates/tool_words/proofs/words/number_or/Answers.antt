@@ -1,7 +1,7 @@
 use Rattle.std.proofs.Common.{◌≡◌, ◌∙◌, ◌<◌, ◌^◌, refl, sym, arith}
 use Rattle.std.specs.Fmt.{decimal}
-use Rattle.crash_tool.proofs.NumberLemmas.{number-read, number-outside, number-none}
-use Rattle.crash_tool.proofs.words.number_or.Goals as goal
+use Rattle.tool_words.proofs.NumberLemmas.{number-read, number-outside, number-none}
+use Rattle.tool_words.proofs.words.number_or.Goals as goal
 
 pub returns-in_err-number-clause-number : goal.returns-in_err-number-clause-number
 returns-in_err-number-clause-number c =
