@@ -6,6 +6,7 @@
 pub mod answer;
 mod demo;
 pub mod laws;
+mod made;
 mod outcome;
 mod receiver;
 mod run_text;
