@@ -8,7 +8,7 @@
 
 ghost use Rattle.std.specs.Prelude.{◌≡◌, ◌↔◌, ◌⊎◌};
 
-use crash_tool::answer::{Answer, Refusal};
+use crash_tool::answer::Refusal;
 use crash_tool::say::say;
 use crash_tool::tool::run_tool;
 use fault_io::{HostFolder, HostSink};
@@ -50,8 +50,8 @@ fn main(rt: HostRuntime) -> ExitCode {
             let mut folder = HostFolder::new(files);
             run_tool(alloc, words.as_slice(), &mut folder, &mut out, &mut err)
         }
-        (Some(refusal), _) => say(&mut out, &mut err, &Answer::Refused(refusal)),
-        (None, Err(_)) => say(&mut out, &mut err, &Answer::Refused(Refusal::NoMemory)),
+        (Some(refusal), _) => say(&mut out, &mut err, &Err(refusal)),
+        (None, Err(_)) => say(&mut out, &mut err, &Err(Refusal::NoMemory)),
     };
     ExitCode::from(status)
 }

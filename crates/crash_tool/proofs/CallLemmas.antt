@@ -1,5 +1,5 @@
 -- From what was said to what the call promises.
-use Rattle.std.proofs.Common.{◌≡◌, ◌≢◌, ◌∙◌, ℕ, List, [], length, Option, Some, None, refl, sym, ap, subst, inl, inr, arith, append-nil, IfSome}
+use Rattle.std.proofs.Common.{◌≡◌, ◌≢◌, ◌∙◌, ℕ, List, [], length, Option, Some, None, refl, sym, ap, subst, inl, inr, arith, append-nil, Ok, Err, IfOk, IfErr, IfSome}
 use Rattle.fault_io.specs.Files.{Files}
 use Rattle.fault_io.specs.Faults.{Rose, NoFault, after_taking}
 use Rattle.report_format.specs.Text.{Content}
@@ -7,16 +7,15 @@ use Rattle.report_format.specs.Reading.{IsTextOf}
 use Rattle.receiver_replay.specs.Right.{IsRight}
 use Rattle.crash_tool.specs.declared.answer.Refusal.{Refusal}
 use Rattle.crash_tool.specs.declared.answer.Refusal.TheVariants.{NoMemory, Usage, CannotRead, TooLong, NotAProgram, NoCrash, StillRunning, Spent, NotAReport, WrongProgram, Differs}
-use Rattle.crash_tool.specs.declared.answer.Answer.{Answer}
-use Rattle.crash_tool.specs.declared.answer.Answer.TheVariants.{Text, Refused}
-use Rattle.crash_tool.specs.declared.words.Action.{Action}
-use Rattle.crash_tool.specs.declared.words.Action.TheVariants.{Make, Run, Replay, Check}
-use Rattle.crash_tool.specs.Refusals.{status_of, line_of, write_line, status, out_of, err_of, IsLineOf}
-use Rattle.crash_tool.specs.Words.{Task, Asked, OnFiles, OnDemo, make_by, make_in, task_in}
-use Rattle.crash_tool.specs.Outcome.{outcome, transcript_under}
+use Rattle.tool_words.specs.declared.words.Action.{Action}
+use Rattle.tool_words.specs.declared.words.Action.TheVariants.{Make, Run, Replay, Check}
+use Rattle.crash_tool.specs.Refusals.{Answer, IsGiven, status_of, line_of, write_line, out_of, err_of, IsLineOf}
+use Rattle.tool_words.specs.Words.{Task, Asked, OnFiles, OnDemo, make_by, make_in, task_in}
+use Rattle.crash_tool.specs.Made.{transcript_under}
+use Rattle.crash_tool.specs.Outcome.{outcome}
 use Rattle.crash_tool.specs.Answers.{IsDone, IsAnswerTo, files_for}
 use Rattle.crash_tool.specs.Received.{IsAccepted}
-use Rattle.crash_tool.specs.Call.{Change, Says, OfRight, IsRightBut, IsStatusBut, IsCannotRead, TakesPrefix, Takes, TakesNothing, TakesLine, HasFault, HasNoFault, Gives, IsOfFiles, IsAnswer, IsReceived}
+use Rattle.crash_tool.specs.Call.{Change, Says, OfRight, IsRightBut, IsStatusBut, IsCannotRead, TakesPrefix, Takes, TakesNothing, TakesLine, HasFault, HasNoFault, Gives, IsReceived}
 use Rattle.crash_tool.proofs.AnswerLemmas.{make-outcome}
 
 no_refusal_is_0 : (r : Refusal) → status_of r ≡ 0 → ⊥
@@ -45,28 +44,13 @@ no_refusal_is_4 (NotAReport line) e = omega arith
 no_refusal_is_4 WrongProgram e = omega arith
 no_refusal_is_4 (Differs line) e = omega arith
 
--- what comes of files is given
-pub of_files : (a : Answer) → IsOfFiles a → IsAnswer a
-of_files (Text b) is = tt
-of_files (Refused NoMemory) is = tt
-of_files (Refused Usage) is = tt
-of_files (Refused (CannotRead role)) is = tt
-of_files (Refused (TooLong role)) is = tt
-of_files (Refused (NotAProgram rule)) is = is
-of_files (Refused NoCrash) is = tt
-of_files (Refused StillRunning) is = tt
-of_files (Refused (Spent first width)) is = tt
-of_files (Refused (NotAReport line)) is = tt
-of_files (Refused WrongProgram) is = tt
-of_files (Refused (Differs line)) is = tt
-
 -- the line that was put is one of the status
-pub said_given : (a : Answer) (out err : Change) (s : ℕ) → Says a out err s → IsAnswer a → s ≢ 0 → (line : List ℕ) × IsLineOf s line × TakesLine err line
-said_given (Text b) out err s says given not_0 = elim says.zero_or_four [
+pub said_given : (a : Answer) (out err : Change) (s : ℕ) → Says a out err s → IfErr a IsGiven → s ≢ 0 → (line : List ℕ) × IsLineOf s line × TakesLine err line
+said_given (Ok b) out err s says given not_0 = elim says.zero_or_four [
   | inl zero ↦ absurd (not_0 zero)
   | inr four ↦ (write_line, inl (four, refl), says.line four)
 ]
-said_given (Refused r) out err s says given not_0 = (line_of r, inr (r, given, says.status_is, refl), says.line)
+said_given (Err r) out err s says given not_0 = (line_of r, inr (r, given, says.status_is, refl), says.line)
 
 nothing : (h : Option (List ℕ)) → h ≡ after_taking h []
 nothing None = refl
@@ -85,64 +69,64 @@ is_3 _ is = absurd is
 module _ (is : Answer → Type 0) (old new : ℕ) (out err : Change) (s : ℕ) where
   -- the status has its cause
   pub said-status : (a : Answer) → IsRightBut is (Rose old new) a → Says a out err s → IsStatusBut is (Rose old new) (HasFault out) s
-  said-status (Text b) (inl right) says = elim says.zero_or_four [
-    | inl zero ↦ inl (record { answer = Text b; right = right; property = zero })
-    | inr four ↦ inr (inr (inr (four, (record { answer = Text b; right = right; property = refl }, says.cause four))))
+  said-status (Ok b) (inl right) says = elim says.zero_or_four [
+    | inl zero ↦ inl (record { answer = Ok b; right = right; property = zero })
+    | inr four ↦ inr (inr (inr (four, (record { answer = Ok b; right = right; property = refl }, says.cause four))))
   ]
-  said-status (Text b) (inr (inl e)) says = cc
-  said-status (Text b) (inr (inr e)) says = absurd e.0
-  said-status (Refused r) (inl right) says = inl (record { answer = Refused r; right = right; property = says.status_is })
-  said-status (Refused r) (inr (inl e)) says =
+  said-status (Ok b) (inr (inl e)) says = cc
+  said-status (Ok b) (inr (inr e)) says = absurd e.0
+  said-status (Err r) (inl right) says = inl (record { answer = Err r; right = right; property = says.status_is })
+  said-status (Err r) (inr (inl e)) says =
       let is : r ≡ NoMemory = cc in
       inr (inl (says.status_is ∙ ap status_of is))
-  said-status (Refused r) (inr (inr e)) says = inr (inr (inl (says.status_is ∙ is_3 r e.0, e.1)))
+  said-status (Err r) (inr (inr e)) says = inr (inr (inl (says.status_is ∙ is_3 r e.0, e.1)))
 
   -- at status 0 the text was put
   pub said-text : (a : Answer) → IsRightBut is (Rose old new) a → Says a out err s → s ≡ 0 → OfRight is (λ answer. Takes out (out_of answer))
-  said-text (Text b) (inl right) says zero = record { answer = Text b; right = right; property = says.text zero }
-  said-text (Text b) (inr (inl e)) says zero = cc
-  said-text (Text b) (inr (inr e)) says zero = absurd e.0
-  said-text (Refused r) but says zero = absurd (no_refusal_is_0 r (sym says.status_is ∙ zero))
+  said-text (Ok b) (inl right) says zero = record { answer = Ok b; right = right; property = says.text zero }
+  said-text (Ok b) (inr (inl e)) says zero = cc
+  said-text (Ok b) (inr (inr e)) says zero = absurd e.0
+  said-text (Err r) but says zero = absurd (no_refusal_is_0 r (sym says.status_is ∙ zero))
 
   -- at status 4 a first part of the text was put
   pub said-part : (a : Answer) → IsRightBut is (Rose old new) a → Says a out err s → s ≡ 4 → OfRight is (λ answer. TakesPrefix out (out_of answer))
-  said-part (Text b) (inl right) says four = record { answer = Text b; right = right; property = says.part }
-  said-part (Text b) (inr (inl e)) says four = cc
-  said-part (Text b) (inr (inr e)) says four = absurd e.0
-  said-part (Refused r) but says four = absurd (no_refusal_is_4 r (sym says.status_is ∙ four))
+  said-part (Ok b) (inl right) says four = record { answer = Ok b; right = right; property = says.part }
+  said-part (Ok b) (inr (inl e)) says four = cc
+  said-part (Ok b) (inr (inr e)) says four = absurd e.0
+  said-part (Err r) but says four = absurd (no_refusal_is_4 r (sym says.status_is ∙ four))
 
   -- a refusal other than for memory or a failed read is a right answer, and its line was put
   pub said-line : (a : Answer) → IsRightBut is (Rose old new) a → Says a out err s → s ≢ 0 → s ≢ 1 → s ≢ 4 → (s ≡ 3 → NoFault old new)
       → OfRight is (λ answer. TakesLine err (err_of answer))
-  said-line (Text b) but says not_0 not_1 not_4 none = elim says.zero_or_four [ inl zero ↦ absurd (not_0 zero) | inr four ↦ absurd (not_4 four) ]
-  said-line (Refused r) (inl right) says not_0 not_1 not_4 none = record { answer = Refused r; right = right; property = says.line }
-  said-line (Refused r) (inr (inl e)) says not_0 not_1 not_4 none =
+  said-line (Ok b) but says not_0 not_1 not_4 none = elim says.zero_or_four [ inl zero ↦ absurd (not_0 zero) | inr four ↦ absurd (not_4 four) ]
+  said-line (Err r) (inl right) says not_0 not_1 not_4 none = record { answer = Err r; right = right; property = says.line }
+  said-line (Err r) (inr (inl e)) says not_0 not_1 not_4 none =
       let is : r ≡ NoMemory = cc in
       absurd (not_1 (says.status_is ∙ ap status_of is))
-  said-line (Refused r) (inr (inr e)) says not_0 not_1 not_4 none = absurd (faultless old new e.1 (none (says.status_is ∙ is_3 r e.0)))
+  said-line (Err r) (inr (inr e)) says not_0 not_1 not_4 none = absurd (faultless old new e.1 (none (says.status_is ∙ is_3 r e.0)))
 
   -- without faults and want of memory a right answer was said, all of it
   pub said-whole : (a : Answer) → IsRightBut is (Rose old new) a → Says a out err s → s ≢ 1 → NoFault old new → HasNoFault out → HasNoFault err
       → OfRight is (λ answer. Gives answer out err s)
-  said-whole (Text b) (inl right) says some none no_out no_err = record {
-    answer = Text b;
+  said-whole (Ok b) (inl right) says some none no_out no_err = record {
+    answer = Ok b;
     right = right;
     property = elim says.zero_or_four [
       | inl zero ↦ record { status_is = zero; text = says.text zero; line = takes_nothing err (says.quiet zero) }
       | inr four ↦ absurd (faultless out.old out.new (says.cause four) no_out)
     ];
   }
-  said-whole (Text b) (inr (inl e)) says some none no_out no_err = cc
-  said-whole (Text b) (inr (inr e)) says some none no_out no_err = absurd e.0
-  said-whole (Refused r) (inl right) says some none no_out no_err = record {
-    answer = Refused r;
+  said-whole (Ok b) (inr (inl e)) says some none no_out no_err = cc
+  said-whole (Ok b) (inr (inr e)) says some none no_out no_err = absurd e.0
+  said-whole (Err r) (inl right) says some none no_out no_err = record {
+    answer = Err r;
     right = right;
     property = record { status_is = says.status_is; text = takes_nothing out says.nothing; line = says.line.whole no_err };
   }
-  said-whole (Refused r) (inr (inl e)) says some none no_out no_err =
+  said-whole (Err r) (inr (inl e)) says some none no_out no_err =
       let is : r ≡ NoMemory = cc in
       absurd (some (says.status_is ∙ ap status_of is))
-  said-whole (Refused r) (inr (inr e)) says some none no_out no_err = absurd (faultless old new e.1 none)
+  said-whole (Err r) (inr (inr e)) says some none no_out no_err = absurd (faultless old new e.1 none)
 
 -- ---- the same where the folder tells its files
 
@@ -194,10 +178,10 @@ headline-told (Some (OnDemo kind size options)) files old new a out err s is say
 headline-told (Some (OnFiles task)) files old new a out err s is says = headline-by task task.action files old new a out err s refl is says
 
 -- at status 0 a report that was checked is right
-accepted : (p bytes : List ℕ) (task : Task) (a : Answer) (out err : Change) (s : ℕ) → IsAccepted p task.options bytes a → Says a out err s → s ≡ 0
+accepted : (p bytes : List ℕ) (task : Task) (a : Answer) (out err : Change) (s : ℕ) → IfOk a (λ _. IsAccepted p task.options bytes) → Says a out err s → s ≡ 0
     → (report : Content) × IsTextOf report bytes × IsRight p report task.options.steps
-accepted p bytes task (Text b) out err s is says zero = is
-accepted p bytes task (Refused r) out err s is says zero = absurd (no_refusal_is_0 r (sym says.status_is ∙ zero))
+accepted p bytes task (Ok b) out err s is says zero = is
+accepted p bytes task (Err r) out err s is says zero = absurd (no_refusal_is_0 r (sym says.status_is ∙ zero))
 
 pub received-told : (w : Option Task) (files : Option Files) (a : Answer) (out err : Change) (s : ℕ)
     → IfSome w (λ task. IfSome files (IsReceived task a)) → Says a out err s

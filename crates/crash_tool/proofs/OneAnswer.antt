@@ -1,23 +1,24 @@
 -- Words have one answer over the files that are held.
-use Rattle.std.proofs.Common.{◌≡◌, ◌∙◌, ℕ, List, Option, Some, None, Result, Ok, Err, refl, sym, ap}
+use Rattle.std.proofs.Common.{◌≡◌, ◌∙◌, ℕ, List, Option, Some, None, Result, Ok, Err, sym, ap}
 use Rattle.fault_io.specs.Files.{Files}
 use Rattle.report_format.specs.Text.{Content, IsReport, text}
 use Rattle.report_format.specs.Reading.{FailsAt}
 use Rattle.crash_tool.specs.declared.answer.Refusal.{Refusal}
 use Rattle.crash_tool.specs.declared.answer.Role.TheVariants.{Program}
-use Rattle.crash_tool.specs.declared.answer.Answer.{Answer}
-use Rattle.crash_tool.specs.declared.words.Action.{Action}
-use Rattle.crash_tool.specs.declared.words.Action.TheVariants.{Make, Run, Replay, Check}
-use Rattle.crash_tool.specs.declared.words.Options.{Options}
-use Rattle.crash_tool.specs.Words.{Task, Asked, OnFiles, OnDemo}
-use Rattle.crash_tool.specs.Demo.{IsDemoAnswer, demo_of}
+use Rattle.crash_tool.specs.Refusals.{Answer}
+use Rattle.tool_words.specs.declared.words.Action.{Action}
+use Rattle.tool_words.specs.declared.words.Action.TheVariants.{Make, Run, Replay, Check}
+use Rattle.tool_words.specs.declared.words.Options.{Options}
+use Rattle.tool_words.specs.Words.{Task, Asked, OnFiles, OnDemo}
+use Rattle.crash_tool.specs.Made.{made, transcript_under}
+use Rattle.crash_tool.specs.Demo.{IsDemoAnswer, summed}
 use Rattle.rv_decode.specs.declared.instr.Instr.{Instr}
 use Rattle.rv_assemble.specs.declared.region.Region.{Region}
 use Rattle.rv_assemble.specs.declared.demo.DemoKind.{DemoKind}
 use Rattle.rv_assemble.specs.Parts.{IsFile}
 use Rattle.rv_assemble.specs.Demo.{demo_code, demo_regions, demo_input}
 use Rattle.crash_tool.specs.Received.{IsReading, IsByReading, replay_answer, check_answer}
-use Rattle.crash_tool.specs.Answers.{read_of, role_of, IsAnswerOf, IsOfSecond, IsOfProgram, IsDone, IsAnswerTo}
+use Rattle.crash_tool.specs.Answers.{read_of, role_of, IsAnswerOf, IsOfSecond, IsOfProgram, IsAnswerTo}
 
 module _ (one_report : (a b : Content) → IsReport a → IsReport b → text a ≡ text b → a ≡ b) (one_line : (bytes : List ℕ) (m n : ℕ) → FailsAt m bytes → FailsAt n bytes → m ≡ n)
     (one_file : (code : List Instr) (regions : List Region) (a b : List ℕ) → IsFile code regions a → IsFile code regions b → a ≡ b) where
@@ -46,7 +47,7 @@ module _ (one_report : (a b : Content) → IsReport a → IsReport b → text a 
 
   of_demo : (kind : DemoKind) (size : ℕ) (o : Options) (a b : Answer) → IsDemoAnswer kind size o a → IsDemoAnswer kind size o b → a ≡ b
   of_demo kind size o a b is_a is_b =
-      is_a.same ∙ ap (λ p. demo_of kind size p o (demo_input kind size)) (one_file (demo_code kind size) (demo_regions size) is_a.program is_b.program is_a.file is_b.file) ∙ sym is_b.same
+      is_a.same ∙ ap (λ p. summed kind size (made p o (transcript_under p o (demo_input kind size)))) (one_file (demo_code kind size) (demo_regions size) is_a.program is_b.program is_a.file is_b.file) ∙ sym is_b.same
 
   pub one_answer : (asked : Option Asked) (held : Files) (a b : Answer) → IsAnswerTo asked held a → IsAnswerTo asked held b → a ≡ b
   one_answer None held a b is_a is_b = is_a ∙ sym is_b

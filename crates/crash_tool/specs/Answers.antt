@@ -8,13 +8,13 @@ use Rattle.crash_tool.specs.declared.answer.Role.{Role}
 use Rattle.crash_tool.specs.declared.answer.Role.TheVariants.{Program, Input, Report}
 use Rattle.crash_tool.specs.declared.answer.Refusal.{Refusal}
 use Rattle.crash_tool.specs.declared.answer.Refusal.TheVariants.{Usage, CannotRead, TooLong, NotAProgram}
-use Rattle.crash_tool.specs.declared.answer.Answer.{Answer}
-use Rattle.crash_tool.specs.declared.answer.Answer.TheVariants.{Text, Refused}
-use Rattle.crash_tool.specs.declared.words.Action.{Action}
-use Rattle.crash_tool.specs.declared.words.Action.TheVariants.{Make, Run, Replay, Check}
-use Rattle.crash_tool.specs.declared.words.Options.{Options}
-use Rattle.crash_tool.specs.Words.{Task, Asked, OnFiles, OnDemo}
-use Rattle.crash_tool.specs.Outcome.{outcome, transcript_under}
+use Rattle.crash_tool.specs.Refusals.{Answer}
+use Rattle.tool_words.specs.declared.words.Action.{Action}
+use Rattle.tool_words.specs.declared.words.Action.TheVariants.{Make, Run, Replay, Check}
+use Rattle.tool_words.specs.declared.words.Options.{Options}
+use Rattle.tool_words.specs.Words.{Task, Asked, OnFiles, OnDemo}
+use Rattle.crash_tool.specs.Made.{transcript_under}
+use Rattle.crash_tool.specs.Outcome.{outcome}
 use Rattle.crash_tool.specs.RunText.{run_text}
 use Rattle.crash_tool.specs.Received.{IsByReading, replay_answer, check_answer}
 use Rattle.crash_tool.specs.Demo.{IsDemoAnswer}
@@ -43,8 +43,8 @@ role_of Check = Report
 
 -- the text of a run, however it ends
 abbrev pub run_answer : Option ElfError → Transcript → Answer
-run_answer (Some rule) t = Refused (NotAProgram rule)
-run_answer None t = Text (run_text t)
+run_answer (Some rule) t = Err (NotAProgram rule)
+run_answer None t = Ok (run_text t)
 
 -- the answer of an action to the bytes of a program and of a second file
 abbrev pub IsAnswerOf : Action → List ℕ → Options → List ℕ → Answer → Type 0
@@ -54,11 +54,11 @@ IsAnswerOf Replay p o x answer = IsByReading (replay_answer p) x answer
 IsAnswerOf Check p o x answer = IsByReading (check_answer p o) x answer
 
 abbrev pub IsOfSecond : Task → List ℕ → Result (List ℕ) Refusal → Answer → Type 0
-IsOfSecond task p (Err refused) answer = answer ≡ Refused refused
+IsOfSecond task p (Err refused) answer = answer ≡ Err refused
 IsOfSecond task p (Ok x) answer = IsAnswerOf task.action p task.options x answer
 
 abbrev pub IsOfProgram : Task → Files → Result (List ℕ) Refusal → Answer → Type 0
-IsOfProgram task held (Err refused) answer = answer ≡ Refused refused
+IsOfProgram task held (Err refused) answer = answer ≡ Err refused
 IsOfProgram task held (Ok p) answer = IsOfSecond task p (read_of (role_of task.action) (held task.second)) answer
 
 -- the program is read first, and the second file only where the program was read
@@ -67,7 +67,7 @@ IsDone task held answer = IsOfProgram task held (read_of Program (held task.prog
 
 -- the answer to words, over the files that are held
 abbrev pub IsAnswerTo : Option Asked → Files → Answer → Type 0
-IsAnswerTo None held answer = answer ≡ Refused Usage
+IsAnswerTo None held answer = answer ≡ Err Usage
 IsAnswerTo (Some (OnFiles task)) held answer = IsDone task held answer
 IsAnswerTo (Some (OnDemo kind size options)) held answer = IsDemoAnswer kind size options answer
 

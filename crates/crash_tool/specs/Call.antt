@@ -1,16 +1,14 @@
 -- What a call leaves on out and on err.
-use Rattle.std.specs.Prelude.{◌≡◌, ◌≢◌, ◌⊎◌, ℕ, List, Option, Some, Result, Err, IsErrAnd}
+use Rattle.std.specs.Prelude.{◌≡◌, ◌≢◌, ◌⊎◌, ℕ, List, Option, Some, Result, Ok, Err, IfOk, IsErrAnd}
 use Rattle.elf32.specs.declared.error.ElfError.TheVariants as rules
 use Rattle.fault_io.specs.Faults.{Rose, NoFault, after_taking, TookPrefix}
 use Rattle.crash_tool.specs.declared.answer.Refusal.{Refusal}
 use Rattle.crash_tool.specs.declared.answer.Refusal.TheVariants.{NoMemory, Usage, CannotRead, NotAProgram}
-use Rattle.crash_tool.specs.declared.answer.Answer.{Answer}
-use Rattle.crash_tool.specs.declared.answer.Answer.TheVariants.{Text, Refused}
 use Rattle.fault_io.specs.Files.{Files}
-use Rattle.crash_tool.specs.declared.words.Action.TheVariants.{Check}
-use Rattle.crash_tool.specs.Words.{Task}
+use Rattle.tool_words.specs.declared.words.Action.TheVariants.{Check}
+use Rattle.tool_words.specs.Words.{Task}
 use Rattle.crash_tool.specs.Received.{IsAccepted}
-use Rattle.crash_tool.specs.Refusals.{IsGiven, status_of, line_of, write_line, status, out_of, err_of}
+use Rattle.crash_tool.specs.Refusals.{Answer, status_of, line_of, write_line, status, out_of, err_of}
 
 -- ---- a sink before and after a call
 
@@ -66,8 +64,8 @@ pub record SaysRefusal (out err : Change) (refusal : Refusal) (given : ℕ) : Ty
   pub line : TakesLine err (line_of refusal)
 
 abbrev pub Says : Answer → Change → Change → ℕ → Type 0
-Says (Text bytes) out err given = SaysText out err bytes given
-Says (Refused refusal) out err given = SaysRefusal out err refusal given
+Says (Ok bytes) out err given = SaysText out err bytes given
+Says (Err refusal) out err given = SaysRefusal out err refusal given
 
 -- status, out and err are the answer's, all of it
 pub record Gives (answer : Answer) (out err : Change) (given : ℕ) : Type 0 where
@@ -83,12 +81,15 @@ IsCannotRead _ = ⊥
 
 -- an answer for a read that failed
 abbrev pub IsReadFault : Answer → Type 0
-IsReadFault (Refused refusal) = IsCannotRead refusal
-IsReadFault (Text bytes) = ⊥
+IsReadFault answer = IsErrAnd answer IsCannotRead
 
--- the answer is a right one, or for want of memory, or for a read that failed
+-- the answer is a right one, or for want of memory
+abbrev pub IsBut : (Answer → Type 0) → Answer → Type 0
+IsBut is given = is given ⊎ (given ≡ Err NoMemory)
+
+-- the same, or for a read that failed
 abbrev pub IsRightBut : (Answer → Type 0) → Type 0 → Answer → Type 0
-IsRightBut is failed given = is given ⊎ ((given ≡ Refused NoMemory) ⊎ (IsReadFault given × failed))
+IsRightBut is failed given = is given ⊎ ((given ≡ Err NoMemory) ⊎ (IsReadFault given × failed))
 
 -- a right answer has this property
 pub record OfRight (is has : Answer → Type 0) : Type 0 where
@@ -100,17 +101,12 @@ pub record OfRight (is has : Answer → Type 0) : Type 0 where
 abbrev pub IsReadBut : Result (List ℕ) Refusal → Type 0 → Result (List ℕ) Refusal → Type 0
 IsReadBut true_one failed given = (given ≡ true_one) ⊎ ((given ≡ Err NoMemory) ⊎ (IsErrAnd given IsCannotRead × failed))
 
--- an answer that comes of files that were read
-abbrev pub IsOfFiles : Answer → Type 0
-IsOfFiles (Refused Usage) = ⊥
-IsOfFiles (Refused (CannotRead role)) = ⊥
-IsOfFiles (Refused (NotAProgram rule)) = rule ≢ rules.NoMemory
+-- a refusal that comes of files that were read
+abbrev pub IsOfFiles : Refusal → Type 0
+IsOfFiles Usage = ⊥
+IsOfFiles (CannotRead role) = ⊥
+IsOfFiles (NotAProgram rule) = rule ≢ rules.NoMemory
 IsOfFiles _ = Unit {0}
-
--- an answer that is given: its refusal is
-abbrev pub IsAnswer : Answer → Type 0
-IsAnswer (Refused refusal) = IsGiven refusal
-IsAnswer (Text bytes) = Unit {0}
 
 -- The status is that of a right answer; or 1; or 3, where a read failed; or 4, where a right answer is a text and a write to
 -- out failed.
@@ -122,4 +118,4 @@ IsStatusBut is read_failed write_failed given =
 -- where the answer to a receiver is a text, what the report says is right
 abbrev pub IsReceived : Task → Answer → Files → Type 0
 IsReceived task answer held =
-    (p bytes : List ℕ) → task.action ≡ Check → held task.program ≡ Some p → held task.second ≡ Some bytes → IsAccepted p task.options bytes answer
+    (p bytes : List ℕ) → task.action ≡ Check → held task.program ≡ Some p → held task.second ≡ Some bytes → IfOk answer (λ _. IsAccepted p task.options bytes)

@@ -1,5 +1,5 @@
 -- The status of each refusal and its line on err.
-use Rattle.std.specs.Prelude.{◌≡◌, ◌≢◌, ◌⊎◌, ℕ, List, [], ◌∷◌, ◌++◌, codes}
+use Rattle.std.specs.Prelude.{◌≡◌, ◌≢◌, ◌⊎◌, ℕ, List, [], ◌∷◌, ◌++◌, codes, Result, Ok, Err}
 use Rattle.std.specs.Fmt.{decimal}
 use Rattle.elf32.specs.declared.error.ElfError.{ElfError}
 use Rattle.elf32.specs.declared.error.ElfError.TheVariants as rules
@@ -7,8 +7,47 @@ use Rattle.crash_tool.specs.declared.answer.Role.{Role}
 use Rattle.crash_tool.specs.declared.answer.Role.TheVariants.{Program, Input, Report}
 use Rattle.crash_tool.specs.declared.answer.Refusal.{Refusal}
 use Rattle.crash_tool.specs.declared.answer.Refusal.TheVariants.{NoMemory, Usage, CannotRead, TooLong, NotAProgram, NoCrash, StillRunning, Spent, NotAReport, WrongProgram, Differs}
-use Rattle.crash_tool.specs.declared.answer.Answer.{Answer}
-use Rattle.crash_tool.specs.declared.answer.Answer.TheVariants.{Text, Refused}
+use Rattle.report_format.specs.declared.error.ReadError.{ReadError}
+use Rattle.report_format.specs.declared.error.ReadError.TheVariants as read
+use Rattle.report_maker.specs.declared.error.MakeError.{MakeError}
+use Rattle.report_maker.specs.declared.error.MakeError.TheVariants as make
+use Rattle.receiver_replay.specs.declared.error.ReceiveError.{ReceiveError}
+use Rattle.receiver_replay.specs.declared.error.ReceiveError.TheVariants as receive
+use Rattle.tool_words.specs.declared.command.WordsError.{WordsError}
+use Rattle.tool_words.specs.declared.command.WordsError.TheVariants as words
+
+-- what the tool has to say: a text, or a refusal
+abbrev pub Answer : Type 0
+Answer = Result (List ℕ) Refusal
+
+-- ---- the refusal that an error means
+
+abbrev pub of_words : WordsError → Refusal
+of_words words.NoMemory = NoMemory
+of_words words.Usage = Usage
+
+-- the rule that a file breaks, or want of memory, which is no rule
+abbrev pub IsOfRule : ElfError → Refusal → Type 0
+IsOfRule rule refusal = ((rule ≢ rules.NoMemory) × (refusal ≡ NotAProgram rule)) ⊎ ((rule ≡ rules.NoMemory) × (refusal ≡ NoMemory))
+
+abbrev pub of_make : MakeError → Refusal
+of_make (make.Spent first width) = Spent first width
+of_make make.NoMemory = NoMemory
+
+abbrev pub of_read : ReadError → Refusal
+of_read (read.Line line) = NotAReport line
+of_read read.NoMemory = NoMemory
+
+abbrev pub of_receive : ReceiveError → Refusal
+of_receive receive.WrongProgram = WrongProgram
+of_receive (receive.Program rule) = NotAProgram rule
+of_receive receive.StillRunning = StillRunning
+of_receive receive.NoCrash = NoCrash
+of_receive (receive.Spent first width) = Spent first width
+of_receive (receive.Differs line) = Differs line
+of_receive receive.NoMemory = NoMemory
+
+-- ---- statuses and lines
 
 abbrev pub status_of : Refusal → ℕ
 status_of NoMemory = 1
@@ -78,13 +117,13 @@ IsLineOf given line =
 
 -- the status of an answer, and what it puts on out and on err
 abbrev pub status : Answer → ℕ
-status (Text bytes) = 0
-status (Refused refusal) = status_of refusal
+status (Ok bytes) = 0
+status (Err refusal) = status_of refusal
 
 abbrev pub out_of : Answer → List ℕ
-out_of (Text bytes) = bytes
-out_of (Refused refusal) = []
+out_of (Ok bytes) = bytes
+out_of (Err refusal) = []
 
 abbrev pub err_of : Answer → List ℕ
-err_of (Text bytes) = []
-err_of (Refused refusal) = line_of refusal
+err_of (Ok bytes) = []
+err_of (Err refusal) = line_of refusal

@@ -1,13 +1,18 @@
 //! What the tool has to say: a text, or a refusal with its status and its line.
 
 ghost use Rattle.std.specs.Prelude.{◌≡◌, ◌≢◌, ℕ};
-ghost use Rattle.crash_tool.specs.declared.answer.Refusal.TheVariants.{NotAProgram, Spent, NotAReport, Differs};
+ghost use Rattle.crash_tool.specs.declared.answer.Refusal.TheVariants.{NoMemory, NotAProgram, Spent, NotAReport, Differs};
 ghost use Rattle.crash_tool.specs.Refusals.{status_of, line_of, message_of, rule_name};
+ghost use Rattle.crash_tool.specs.Refusals.{of_words, IsOfRule, of_make, of_read, of_receive};
 
 use arrayvec::ArrayString;
 use elf32::ElfError;
 use itoa::Buffer;
-use report_format::Bytes;
+use receiver_replay::ReceiveError;
+use report_format::{Bytes, ReadError};
+use report_maker::MakeError;
+use std::alloc::AllocError;
+use tool_words::WordsError;
 
 /// A file that the words name.
 #[derive(Clone, Copy, Debug, PartialEq, Eq)]
@@ -57,11 +62,75 @@ pub enum Refusal {
     },
 }
 
-/// What the tool has to say, before it says it.
-#[derive(Drop)]
-pub enum Answer {
-    Text(Bytes),
-    Refused(Refusal),
+/// What the tool has to say, before it says it: a text, or a refusal.
+pub type Answer = Result<Bytes, Refusal>;
+
+impl From<AllocError> for Refusal {
+    ghost from_gives = { λ _ refusal. refusal ≡ NoMemory };
+
+    fn from(_error: AllocError) -> Refusal {
+        Refusal::NoMemory
+    }
+}
+
+impl From<WordsError> for Refusal {
+    ghost from_gives = { λ error refusal. refusal ≡ of_words error };
+
+    fn from(error: WordsError) -> Refusal {
+        match error {
+            WordsError::NoMemory => Refusal::NoMemory,
+            WordsError::Usage => Refusal::Usage,
+        }
+    }
+}
+
+impl From<ElfError> for Refusal {
+    ghost from_gives = { λ rule refusal. IsOfRule rule refusal };
+
+    fn from(rule: ElfError) -> Refusal {
+        match rule {
+            ElfError::NoMemory => Refusal::NoMemory,
+            _ => Refusal::NotAProgram(rule),
+        }
+    }
+}
+
+impl From<MakeError> for Refusal {
+    ghost from_gives = { λ error refusal. refusal ≡ of_make error };
+
+    fn from(error: MakeError) -> Refusal {
+        match error {
+            MakeError::Spent { first, width } => Refusal::Spent { first, width },
+            MakeError::NoMemory => Refusal::NoMemory,
+        }
+    }
+}
+
+impl From<ReadError> for Refusal {
+    ghost from_gives = { λ error refusal. refusal ≡ of_read error };
+
+    fn from(error: ReadError) -> Refusal {
+        match error {
+            ReadError::Line(line) => Refusal::NotAReport { line },
+            ReadError::NoMemory => Refusal::NoMemory,
+        }
+    }
+}
+
+impl From<ReceiveError> for Refusal {
+    ghost from_gives = { λ error refusal. refusal ≡ of_receive error };
+
+    fn from(error: ReceiveError) -> Refusal {
+        match error {
+            ReceiveError::WrongProgram => Refusal::WrongProgram,
+            ReceiveError::Program(rule) => Refusal::NotAProgram(rule),
+            ReceiveError::StillRunning => Refusal::StillRunning,
+            ReceiveError::NoCrash => Refusal::NoCrash,
+            ReceiveError::Spent { first, width } => Refusal::Spent { first, width },
+            ReceiveError::Differs { line } => Refusal::Differs { line },
+            ReceiveError::NoMemory => Refusal::NoMemory,
+        }
+    }
 }
 
 /// The status of a refusal.

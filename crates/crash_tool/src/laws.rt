@@ -4,11 +4,12 @@ ghost use Rattle.std.specs.Prelude.{◌≡◌, ◌<◌, ℕ, List, length, All, 
 ghost use Rattle.fault_io.specs.Files.{Files};
 ghost use Rattle.elf32.specs.Loads.{loaded_program};
 ghost use Rattle.report_laws.specs.Made.{first_input};
-ghost use Rattle.crash_tool.specs.declared.answer.Answer.{Answer};
-ghost use Rattle.crash_tool.specs.declared.words.Options.{Options};
-ghost use Rattle.crash_tool.specs.Words.{Asked};
+ghost use Rattle.crash_tool.specs.Refusals.{Answer};
+ghost use Rattle.tool_words.specs.declared.words.Options.{Options};
+ghost use Rattle.tool_words.specs.Words.{Asked};
 ghost use Rattle.crash_tool.specs.Answers.{IsAnswerTo};
-ghost use Rattle.crash_tool.specs.Outcome.{outcome, transcript_under};
+ghost use Rattle.crash_tool.specs.Made.{transcript_under};
+ghost use Rattle.crash_tool.specs.Outcome.{outcome};
 
 /// Two inputs of equal length and trace have one outcome: equal bytes on out and on err, and an
 /// equal status.

@@ -4,15 +4,12 @@
 #![tactic(auto)]
 
 pub mod answer;
-mod command;
 mod demo;
 pub mod laws;
+mod made;
 mod outcome;
 mod receiver;
 mod run_text;
 pub mod say;
 pub mod tool;
 mod watched_run;
-pub mod words;
-
-pub use command::WordsError;

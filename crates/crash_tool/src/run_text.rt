@@ -6,11 +6,8 @@ ghost use Rattle.std.specs.String.{string_bytes};
 ghost use Rattle.std.specs.FinSet as set;
 ghost use Rattle.elf32.specs.Loads.{program_of};
 ghost use Rattle.rv_machine.specs.Trace.{transcript_of};
-ghost use Rattle.crash_tool.specs.declared.answer.Answer.TheVariants.{Text};
 ghost use Rattle.crash_tool.specs.RunText.{end_line, spaced, seen_text, run_text};
-ghost use Rattle.crash_tool.specs.Call.{IsOfFiles};
 
-use crate::answer::Answer;
 use crate::watched_run::{Seen, watch_run};
 use elf32::Image;
 use no_memory::NoMemory;
@@ -56,12 +53,11 @@ fn run_text(alloc: Global, seen: &Seen) -> Result<Bytes, NoMemory>
 }
 
 /// The text of a program's run on an input.
-pub fn tell_run(alloc: Global, image: &Image, input: &[u8], limit: u32) -> Result<Answer, NoMemory>
+pub fn tell_run(alloc: Global, image: &Image, input: &[u8], limit: u32) -> Result<Bytes, NoMemory>
     requires few { length input.now ≤ 65536 }
-    ensures answer { IfOk result (λ answer. answer ≡ Text (run_text (transcript_of (program_of image.now) input.now limit))) }
-    ensures kind { IfOk result IsOfFiles }
+    ensures { IfOk result (λ text. text ≡ run_text (transcript_of (program_of image.now) input.now limit)) }
 {
     let machine = Machine::start(alloc, image)?;
     let seen = watch_run(alloc, machine, input, limit)?;
-    Ok(Answer::Text(run_text(alloc, &seen)?))
+    run_text(alloc, &seen)
 }

@@ -66,14 +66,14 @@ pub fn say<O: Sink, E: Sink>(out: &mut O, err: &mut E, answer: &Answer) -> u8
     ensures counts { (O.faults out.old ≤ O.faults out.new) × (E.faults err.old ≤ E.faults err.new) }
 {
     match answer {
-        Answer::Text(bytes) => match put_all(out, bytes.as_slice()) {
+        Ok(bytes) => match put_all(out, bytes.as_slice()) {
             Ok(()) => 0,
             Err(Failed) => {
                 put_line(err, b"cannot write\n");
                 4
             }
         },
-        Answer::Refused(refusal) => {
+        Err(refusal) => {
             put_refusal(err, *refusal);
             status_of(*refusal)
         }

@@ -1,32 +1,29 @@
 //! The top call: from words and files to a status, a text on out and a line on err.
 
-ghost use Rattle.std.specs.Prelude.{◌≡◌, ◌≢◌, ◌⊎◌, ℕ, ◌≤◌, List, map, length, Option, None, Some, Ok, IfSome, IfOk, IfErr};
+ghost use Rattle.std.specs.Prelude.{◌≡◌, ◌≢◌, ◌⊎◌, ℕ, ◌≤◌, List, map, length, Option, None, Some, Ok, Err, IfSome, IfOk, IfErr};
 ghost use Rattle.std.specs.String.{string_bytes};
 ghost use Rattle.fault_io.specs.Faults.{Rose, NoFault};
 ghost use Rattle.report_format.specs.Text.{Content};
 ghost use Rattle.report_format.specs.Reading.{IsTextOf};
 ghost use Rattle.receiver_replay.specs.Right.{IsRight};
 ghost use Rattle.crash_tool.specs.Refusals.{out_of, err_of, IsLineOf, IsGiven};
-ghost use Rattle.crash_tool.specs.Words.{make_of, asked_of, task_of, task_value, AreWithin};
-ghost use Rattle.crash_tool.specs.Demo.{IsDemoAnswer};
-ghost use Rattle.crash_tool.specs.Outcome.{outcome, transcript_under};
+ghost use Rattle.tool_words.specs.Words.{make_of, asked_of, task_of, task_value, AreWithin};
+ghost use Rattle.crash_tool.specs.Made.{transcript_under};
+ghost use Rattle.crash_tool.specs.Outcome.{outcome};
 ghost use Rattle.crash_tool.specs.Received.{IsAccepted};
 ghost use Rattle.crash_tool.specs.Answers.{IsAnswerTo, ReadsFiles, files_for, IsDone, IsAnswerOf, read_of, role_of, limit_of};
 ghost use Rattle.crash_tool.specs.Call.{change, Gives, TakesLine, TakesNothing, Takes, TakesPrefix, HasFault, HasNoFault};
-ghost use Rattle.crash_tool.specs.Call.{OfRight, IsReadFault, IsRightBut, IsReadBut, IsCannotRead, IsStatusBut, IsAnswer, IsOfFiles};
+ghost use Rattle.crash_tool.specs.Call.{OfRight, IsReadFault, IsBut, IsRightBut, IsReadBut, IsCannotRead, IsStatusBut, IsOfFiles};
 ghost use Rattle.crash_tool.specs.Call.{IsReceived};
 
 use crate::answer::{Answer, Refusal, Role};
-use crate::command::WordsError;
 use crate::demo::demo;
 use crate::outcome::outcome;
 use crate::receiver::{check, replay, run};
 use crate::say::say;
-use crate::words::{Action, Asked, Options, Task, read_words};
 use fault_io::{Bytes, FetchFault, Fetched, Folder, Sink};
-use no_memory::NoMemory;
-use rv_assemble::DemoKind;
 use std::alloc::Global;
+use tool_words::{Action, Asked, Options, Task, read_words};
 
 /// The most bytes of a file.
 fn limit_of(role: Role) -> u32
@@ -77,13 +74,13 @@ fn answer_of(
     program: &[u8],
     options: Options,
     second: &[u8],
-) -> Result<Answer, NoMemory>
+) -> Answer
     requires short { length program.now ≤ limit_of Role.Program }
     requires few { length second.now ≤ limit_of (role_of action) }
     requires options { AreWithin options }
-    ensures answer { IfOk result (IsAnswerOf action program.now options second.now) }
-    ensures accepted { action ≡ Action.Check → IfOk result (IsAccepted program.now options second.now) }
-    ensures kind { IfOk result IsOfFiles }
+    ensures answer { IsBut (IsAnswerOf action program.now options second.now) result }
+    ensures accepted { action ≡ Action.Check → IfOk result (λ _. IsAccepted program.now options second.now) }
+    ensures kind { IfErr result IsOfFiles }
 {
     match action {
         Action::Make => outcome(alloc, program, options, second),
@@ -95,7 +92,7 @@ fn answer_of(
 
 /// The answer to an action: the program is read first, and the second file only where the program
 /// was read.
-#[tactic(auto, using(crate::proofs::CallLemmas::of_files))]
+#[tactic(auto, using(crate::proofs::AnswerLemmas::no_read_fault, crate::proofs::AnswerLemmas::no_usage, crate::proofs::AnswerLemmas::of_files))]
 fn answer_task<F: Folder>(alloc: Global, task: &Task, folder: &mut F) -> Answer
     requires options { AreWithin task.now.options }
     ensures files { F.files folder.new ≡ F.files folder.old }
@@ -104,42 +101,22 @@ fn answer_task<F: Folder>(alloc: Global, task: &Task, folder: &mut F) -> Answer
         IsRightBut (IsDone (task_value task.now) held) (Rose (F.faults folder.old) (F.faults folder.new)) result) }
     ensures received { IfSome (F.files folder.old) (IsReceived (task_value task.now) result) }
     ensures untold { F.files folder.old ≡ None → IsReadFault result → Rose (F.faults folder.old) (F.faults folder.new) }
-    ensures no_usage { result ≢ Answer.Refused Refusal.Usage }
-    ensures given { IsAnswer result }
+    ensures no_usage { result ≢ Err Refusal.Usage }
+    ensures given { IfErr result IsGiven }
 {
-    let program = match read(alloc, folder, task.program, Role::Program) {
-        Ok(program) => program,
-        Err(refusal) => return Answer::Refused(refusal),
-    };
-    let second = match read(alloc, folder, task.second, role_of(task.action)) {
-        Ok(second) => second,
-        Err(refusal) => return Answer::Refused(refusal),
-    };
-    let (program, second) = (program.as_slice(), second.as_slice());
-    match answer_of(alloc, task.action, program, task.options, second) {
-        Ok(answer) => answer,
-        Err(_) => Answer::Refused(Refusal::NoMemory),
-    }
-}
-
-/// The answer to a demonstration.
-#[tactic(auto, using(crate::proofs::CallLemmas::of_files))]
-fn answer_demo(alloc: Global, kind: DemoKind, size: u32, options: Options) -> Answer
-    requires least { 3 ≤ size }
-    requires most { size ≤ 65536 }
-    requires options { AreWithin options }
-    ensures told { (IsDemoAnswer kind size options result) ⊎ (result ≡ Answer.Refused Refusal.NoMemory) }
-    ensures no_read_fault { IsReadFault result → ⊥ }
-    ensures no_usage { result ≢ Answer.Refused Refusal.Usage }
-    ensures given { IsAnswer result }
-{
-    match demo(alloc, kind, size, options) {
-        Ok(answer) => answer,
-        Err(_) => Answer::Refused(Refusal::NoMemory),
-    }
+    let program = read(alloc, folder, task.program, Role::Program)?;
+    let second = read(alloc, folder, task.second, role_of(task.action))?;
+    answer_of(
+        alloc,
+        task.action,
+        program.as_slice(),
+        task.options,
+        second.as_slice(),
+    )
 }
 
 /// What to say, from the words and the files.
+#[tactic(auto, using(crate::proofs::AnswerLemmas::no_read_fault, crate::proofs::AnswerLemmas::no_usage, crate::proofs::AnswerLemmas::of_files))]
 fn decide<F: Folder>(alloc: Global, words: &[String], folder: &mut F) -> Answer
     ensures files { F.files folder.new ≡ F.files folder.old }
     ensures counts { F.faults folder.old ≤ F.faults folder.new }
@@ -149,22 +126,18 @@ fn decide<F: Folder>(alloc: Global, words: &[String], folder: &mut F) -> Answer
         IfSome (F.files folder.old) (IsReceived task result)) }
     ensures untold { F.files folder.old ≡ None → IsReadFault result → Rose (F.faults folder.old) (F.faults folder.new) }
     ensures reads { IsReadFault result → ReadsFiles (asked_of (map string_bytes words.now)) }
-    ensures usage { result ≡ Answer.Refused Refusal.Usage → asked_of (map string_bytes words.now) ≡ None }
+    ensures usage { result ≡ Err Refusal.Usage → asked_of (map string_bytes words.now) ≡ None }
     ensures words { asked_of (map string_bytes words.now) ≡ None →
-        (result ≡ Answer.Refused Refusal.Usage) ⊎ (result ≡ Answer.Refused Refusal.NoMemory) }
-    ensures given { IsAnswer result }
+        (result ≡ Err Refusal.Usage) ⊎ (result ≡ Err Refusal.NoMemory) }
+    ensures given { IfErr result IsGiven }
 {
-    match read_words(alloc, words) {
-        Ok(Asked::Files(task)) => answer_task(alloc, &task, folder),
-        Ok(
-            Asked::Demo {
-                kind,
-                size,
-                options,
-            },
-        ) => answer_demo(alloc, kind, size, options),
-        Err(WordsError::Usage) => Answer::Refused(Refusal::Usage),
-        Err(WordsError::NoMemory) => Answer::Refused(Refusal::NoMemory),
+    match read_words(alloc, words)? {
+        Asked::Files(task) => answer_task(alloc, &task, folder),
+        Asked::Demo {
+            kind,
+            size,
+            options,
+        } => demo(alloc, kind, size, options),
     }
 }
 

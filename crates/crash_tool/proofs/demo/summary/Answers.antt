@@ -1,8 +1,8 @@
-use Rattle.report_format.specs.Text.{content_of}
+use Rattle.std.proofs.lemmas.Result.{IfOk-weaker}
+use Rattle.crash_tool.specs.Made.{made_value}
 use Rattle.crash_tool.proofs.DemoLemmas.{summary-parts}
 use Rattle.crash_tool.proofs.demo.summary.Goals as goal
 
-pub returns-clause-answer : goal.returns-clause-answer
-returns-clause-answer c =
-    summary-parts c.args.kind c.args.size (content_of c.args.made.now.report) c.args.made.now.groups c.args.made.now.conflicts _ _ _ _ c.in_ok-behind.ensures c.in_ok-case.ensures c.in_ok-cost.ensures
-    c.in_ok-revealed.ensures
+pub returns : goal.returns
+returns c = IfOk-weaker c.behind.result _ _
+    (λ text is. summary-parts c.args.kind c.args.size (made_value c.args.made.now) _ _ _ _ is c.in_ok-case.ensures c.in_ok-cost.ensures c.in_ok-revealed.ensures) c.behind.ensures

@@ -2,7 +2,8 @@ use Rattle.std.proofs.Common.{ap, ◌∙◌}
 use Rattle.elf32.specs.Loads.{loaded_program}
 use Rattle.report_laws.specs.Made.{first_input}
 use Rattle.report_laws.proofs.ClassLemmas.{input_comes_first, input_has_trace}
-use Rattle.crash_tool.specs.Outcome.{outcome, transcript_under}
+use Rattle.crash_tool.specs.Made.{transcript_under}
+use Rattle.crash_tool.specs.Outcome.{outcome}
 use Rattle.crash_tool.proofs.laws.a_report_reproduces_itself.Goals as goal
 
 pub returns : goal.returns

@@ -1,23 +1,14 @@
-use Rattle.std.proofs.Common.{arith}
-use Rattle.std.proofs.lemmas.Result.{IfOk-weaker}
-use Rattle.crash_tool.proofs.OutcomeLemmas.{outcome-of-refused, outcome-of-end, trace-of-image, length-of-run}
+use Rattle.std.proofs.Common.{◌∙◌, ap, sym, inl, length, Ok}
+use Rattle.std.proofs.lemmas.Result.{err_from_is_err_and}
+use Rattle.crash_tool.specs.Outcome.{written}
+use Rattle.crash_tool.proofs.MadeLemmas.{outcome-within, refused-outcome}
 use Rattle.crash_tool.proofs.outcome.outcome.Goals as goal
 
-pub returns-in-Err-clause-answer : goal.returns-in-Err-clause-answer
-returns-in-Err-clause-answer c =
-    outcome-of-refused c.refuse_rule.result _ _ _ _ _ c.requires.short c.requires.few c.refuse_rule.ensures.rule c.refuse_rule.ensures.memory c.in-Err.ensures.refused
+pub returns-in_err-made-clause-answer : goal.returns-in_err-made-clause-answer
+returns-in_err-made-clause-answer c =
+    let p = err_from_is_err_and c.from_residual.result c.from_residual.ensures.1 in
+    rw (p.1, p.2) (refused-outcome c.args.program.now c.args.options (length c.args.input.now) _ c.in_err-made.field-0.0 c.requires.short c.requires.few c.in_err-made.ensures.refused)
 
 pub returns-clause-answer : goal.returns-clause-answer
-returns-clause-answer c = IfOk-weaker c.by_end.result _ _
-    (λ a answer. outcome-of-end c.args.program.now c.args.options c.args.input.now _ a c.requires.short c.requires.few c.in-Ok.ensures.accepted.unbroken
-    (trace-of-image _ _ _ c.in-Ok.image _ c.in-Ok.ensures.accepted.entry c.in-Ok.ensures.accepted.segments c.in_ok-transcript.ensures.run) answer) c.by_end.ensures.answer
-
-pub by_end-requires-clause-few : goal.by_end-requires-clause-few
-by_end-requires-clause-few c = length-of-run _ c.args.input.now _ _ c.in_ok-transcript.ensures.run c.requires.few
-
-pub by_end-requires-clause-run : goal.by_end-requires-clause-run
-by_end-requires-clause-run c = record {
-  input = c.args.input.now;
-  bytes = λ i. let fits = c.type_inv.input i in omega (arith, fits);
-  same = trace-of-image _ _ _ c.in-Ok.image _ c.in-Ok.ensures.accepted.entry c.in-Ok.ensures.accepted.segments c.in_ok-transcript.ensures.run;
-}
+returns-clause-answer c =
+    inl (ap Ok c.in_ok-write_report.ensures ∙ sym (outcome-within c.args.program.now c.args.options (length c.args.input.now) _ c.requires.short c.requires.few ∙ ap written c.in_ok-made.ensures.made))

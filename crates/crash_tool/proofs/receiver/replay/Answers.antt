@@ -1,28 +1,30 @@
 use Rattle.std.proofs.Common.{refl}
+use Rattle.std.proofs.lemmas.Result.{err_from_is_err_and}
 use Rattle.report_format.specs.Text.{content_of}
-use Rattle.receiver_replay.specs.Received.{its_run}
-use Rattle.crash_tool.specs.RunText.{run_text}
-use Rattle.crash_tool.specs.Received.{IsByReading, replay_answer}
-use Rattle.crash_tool.proofs.ReceiverLemmas.{not-a-report, replay-passes, replay-refuses, is-unbroken, if-refused, if-text}
+use Rattle.receiver_replay.specs.Received.{its_run, replayed}
+use Rattle.crash_tool.specs.Received.{by_replay, replay_answer}
+use Rattle.crash_tool.proofs.ReceiverLemmas.{not-a-report, refuses, passes-but, is-unbroken}
 use Rattle.crash_tool.proofs.receiver.replay.Goals as goal
 
-pub returns-in-Err-Line-clause-answer : goal.returns-in-Err-Line-clause-answer
-returns-in-Err-Line-clause-answer c =
-    let is = c.in-Err-Line.field-0-is in
-    rw is (not-a-report (replay_answer c.args.program.now) c.args.text.now c.in-Err-Line.line refl (rw is at c.in-Err-Line.ensures.refused))
+pub returns-in_err-report-clause-answer : goal.returns-in_err-report-clause-answer
+returns-in_err-report-clause-answer c =
+    let p = err_from_is_err_and c.from_residual.result c.from_residual.ensures.1 in
+    rw p.1 (not-a-report (replay_answer c.args.program.now) c.args.text.now c.in_err-report.field-0.0 p.0 p.2 c.in_err-report.ensures.refused (λ line. refl))
+
+pub returns-in_err-replay_report-clause-answer : goal.returns-in_err-replay_report-clause-answer
+returns-in_err-replay_report-clause-answer c =
+    let p = err_from_is_err_and c.from_residual-in_err-replay_report.result c.from_residual-in_err-replay_report.ensures.1 in
+    rw p.1 (refuses (by_replay (its_run c.args.program.now (content_of c.in_ok-report.report) c.in_ok-report.report.steps)) (replay_answer c.args.program.now) c.args.text.now
+    (content_of c.in_ok-report.report) c.in_ok-report.ensures.read (replayed c.args.program.now (content_of c.in_ok-report.report)) refl c.in_err-replay_report.field-0.0 p.0 p.2
+    c.in_err-replay_report.ensures.replayed refl)
 
 pub run_its_input-requires : goal.run_its_input-requires
 run_its_input-requires c = record {
-  unbroken = is-unbroken c.args.program.now (content_of c.in-Ok.report) c.in-Ok-replay_report.field-0 c.in-Ok-replay_report.ensures.replayed;
+  unbroken = is-unbroken c.args.program.now (content_of c.in_ok-report.report) _ c.in_ok-replay_report.ensures.replayed;
 }
-
-pub returns-in-Ok-replay_report-clause-answer : goal.returns-in-Ok-replay_report-clause-answer
-returns-in-Ok-replay_report-clause-answer c =
-    if-text (IsByReading (replay_answer c.args.program.now) c.args.text.now) c.run_its_input.result
-    (run_text (its_run c.args.program.now (content_of c.in-Ok.report) c.in-Ok.report.steps)) c.run_its_input.ensures.answer
-    (replay-passes c.args.program.now c.args.text.now (content_of c.in-Ok.report) c.in-Ok.ensures.read c.in-Ok-replay_report.field-0 c.in-Ok-replay_report.ensures.replayed)
 
 pub returns-clause-answer : goal.returns-clause-answer
 returns-clause-answer c =
-    if-refused (IsByReading (replay_answer c.args.program.now) c.args.text.now) c.refuse.result c.in-Err.error c.refuse.ensures.refusal c.refuse.ensures.memory
-    (replay-refuses c.args.program.now c.args.text.now (content_of c.in-Ok.report) c.in-Ok.ensures.read c.in-Err.error c.in-Err.ensures.replayed)
+    passes-but (by_replay (its_run c.args.program.now (content_of c.in_ok-report.report) c.in_ok-report.report.steps)) (replay_answer c.args.program.now) c.args.text.now
+    (content_of c.in_ok-report.report) c.in_ok-report.ensures.read (replayed c.args.program.now (content_of c.in_ok-report.report)) refl _ c.run_its_input.result
+    c.in_ok-replay_report.ensures.replayed c.run_its_input.ensures.answer

@@ -1,6 +1,6 @@
 use Rattle.std.proofs.Common.{map}
 use Rattle.std.specs.String.{string_bytes}
-use Rattle.crash_tool.specs.Words.{asked_of, task_of}
+use Rattle.tool_words.specs.Words.{asked_of, task_of}
 use Rattle.crash_tool.proofs.CallLemmas.{status-told, text-told, part-told, line-told, whole-told, headline-told, received-told, said_given}
 use Rattle.crash_tool.proofs.tool.run_tool.Goals as goal
 
