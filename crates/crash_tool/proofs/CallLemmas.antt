@@ -8,7 +8,7 @@ use Rattle.receiver_replay.specs.Right.{IsRight}
 use Rattle.crash_tool.specs.declared.answer.Refusal.{Refusal}
 use Rattle.crash_tool.specs.declared.answer.Refusal.TheVariants.{NoMemory, Usage, CannotRead, TooLong, NotAProgram, NoCrash, StillRunning, Spent, NotAReport, WrongProgram, Differs}
 use Rattle.tool_words.specs.declared.words.Action.{Action}
-use Rattle.tool_words.specs.declared.words.Action.TheVariants.{Make, Run, Replay, Check}
+use Rattle.tool_words.specs.declared.words.Action.TheVariants.{Make, Check}
 use Rattle.crash_tool.specs.Refusals.{Answer, IsGiven, status_of, line_of, write_line, out_of, err_of, IsLineOf}
 use Rattle.tool_words.specs.Words.{Task, Asked, OnFiles, OnDemo, make_by, make_in, task_in}
 use Rattle.crash_tool.specs.Made.{transcript_under}
@@ -165,9 +165,7 @@ headline-by task Make None old new a out err s action is says = tt
 headline-by task Make (Some held) old new a out err s action is says = λ p x is_p is_x some none no_out no_err.
     let whole = said-whole (IsDone task held) old new out err s a is says some none no_out no_err in
     subst (λ o. Gives o out err s) (make-outcome task held p x whole.answer whole.right action is_p is_x) whole.property
-headline-by task Run files old new a out err s action is says = tt
-headline-by task Replay files old new a out err s action is says = tt
-headline-by task Check files old new a out err s action is says = tt
+headline-by task _ files old new a out err s action is says = tt
 
 pub headline-told : (w : Option Asked) (files : Option Files) (old new : ℕ) (a : Answer) (out err : Change) (s : ℕ)
     → IfSome (files_for w files) (λ held. IsRightBut (IsAnswerTo w held) (Rose old new) a) → Says a out err s

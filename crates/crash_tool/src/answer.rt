@@ -1,6 +1,7 @@
 //! What the tool has to say: a text, or a refusal with its status and its line.
 
-ghost use Rattle.std.specs.Prelude.{◌≡◌, ◌≢◌, ℕ};
+ghost use Rattle.std.specs.Prelude.{◌≡◌, ◌≤◌, [], ◌∷◌, ◌++◌, length};
+ghost use Rattle.std.specs.Fmt.{decimal};
 ghost use Rattle.crash_tool.specs.declared.answer.Refusal.TheVariants.{NoMemory, NotAProgram, Spent, NotAReport, Differs};
 ghost use Rattle.crash_tool.specs.Refusals.{status_of, line_of, message_of, rule_name};
 ghost use Rattle.crash_tool.specs.Refusals.{of_words, IsOfRule, of_make, of_read, of_receive};
@@ -133,6 +134,9 @@ impl From<ReceiveError> for Refusal {
     }
 }
 
+/// A line of err.
+pub type Line = ArrayString<96>;
+
 /// The status of a refusal.
 pub fn status_of(refusal: Refusal) -> u8
     ensures { result ≡ status_of refusal }
@@ -152,9 +156,22 @@ pub fn status_of(refusal: Refusal) -> u8
     }
 }
 
-/// The line of a group that spends the conflicts, with its line end. It takes no memory.
+/// A line that ends in a number, with its line end. It takes no memory.
+fn numbered_line(text: &str, number: u32) -> Line
+    requires { length text.now ≤ 64 }
+    ensures { result.bytes ≡ text.now ++ decimal number ++ 10 ∷ [] }
+{
+    let mut digits = Buffer::new();
+    let mut line = ArrayString::new();
+    line.push_str(text);
+    line.push_str(digits.format(number));
+    line.push_str("\n");
+    line
+}
+
+/// The line of a group that spends the conflicts, with its line end.
 #[tactic(auto, unfolding(crate::specs::Refusals::message_of))]
-pub fn spent_line(first: u32, width: u32) -> ArrayString<64>
+fn spent_line(first: u32, width: u32) -> Line
     ensures { result.bytes ≡ line_of (Spent first width) }
 {
     let mut digits = Buffer::new();
@@ -167,80 +184,62 @@ pub fn spent_line(first: u32, width: u32) -> ArrayString<64>
     line
 }
 
-/// The line of bytes that are not a report, with its line end. It takes no memory.
-#[tactic(auto, unfolding(crate::specs::Refusals::message_of))]
-pub fn not_a_report_line(number: u32) -> ArrayString<64>
-    ensures { result.bytes ≡ line_of (NotAReport number) }
+/// A line without a number.
+fn plain_line(text: &str) -> Line
+    requires { length text.now ≤ 96 }
+    ensures { result.bytes ≡ text.now }
 {
-    let mut digits = Buffer::new();
     let mut line = ArrayString::new();
-    line.push_str("not a report: line ");
-    line.push_str(digits.format(number));
-    line.push_str("\n");
+    line.push_str(text);
     line
 }
 
-/// The line of a report that the run does not give, with its line end. It takes no memory.
+/// The line of a refusal, with its line end. It takes no memory.
 #[tactic(auto, unfolding(crate::specs::Refusals::message_of))]
-pub fn differs_line(number: u32) -> ArrayString<64>
-    ensures { result.bytes ≡ line_of (Differs number) }
-{
-    let mut digits = Buffer::new();
-    let mut line = ArrayString::new();
-    line.push_str("differs: line ");
-    line.push_str(digits.format(number));
-    line.push_str("\n");
-    line
-}
-
-/// The line of any other refusal, with its line end.
-#[tactic(auto, unfolding(crate::specs::Refusals::message_of))]
-pub fn line_of(refusal: Refusal) -> &'static [u8]
-    requires spent { (first width : ℕ) → refusal ≢ Spent first width }
-    requires text { (line : ℕ) → refusal ≢ NotAReport line }
-    requires difference { (line : ℕ) → refusal ≢ Differs line }
-    ensures { result.now ≡ line_of refusal }
+pub fn line_of(refusal: Refusal) -> Line
+    ensures { result.bytes ≡ line_of refusal }
 {
     match refusal {
-        Refusal::NoMemory => b"no memory\n",
-        Refusal::Usage => {
-            b"usage: crash_cli ACTION FIRST SECOND [--seed N] [--steps N] [--conflicts N]\n"
-        }
-        Refusal::CannotRead(Role::Program) => b"cannot read program\n",
-        Refusal::CannotRead(Role::Input) => b"cannot read input\n",
-        Refusal::CannotRead(Role::Report) => b"cannot read report\n",
-        Refusal::TooLong(Role::Program) => b"program too long\n",
-        Refusal::TooLong(Role::Input) => b"input too long\n",
-        Refusal::TooLong(Role::Report) => b"report too long\n",
-        Refusal::NotAProgram(rule) => rule_line(rule),
-        Refusal::NoCrash => b"no crash\n",
-        Refusal::StillRunning => b"still running\n",
-        Refusal::WrongProgram => b"wrong program\n",
-        Refusal::Spent { .. } | Refusal::NotAReport { .. } | Refusal::Differs { .. } => {
-            unreachable!()
-        }
+        Refusal::NoMemory => plain_line("no memory\n"),
+        Refusal::Usage => plain_line(
+            "usage: crash_cli ACTION FIRST SECOND [--seed N] [--steps N] [--conflicts N]\n",
+        ),
+        Refusal::CannotRead(Role::Program) => plain_line("cannot read program\n"),
+        Refusal::CannotRead(Role::Input) => plain_line("cannot read input\n"),
+        Refusal::CannotRead(Role::Report) => plain_line("cannot read report\n"),
+        Refusal::TooLong(Role::Program) => plain_line("program too long\n"),
+        Refusal::TooLong(Role::Input) => plain_line("input too long\n"),
+        Refusal::TooLong(Role::Report) => plain_line("report too long\n"),
+        Refusal::NotAProgram(rule) => plain_line(rule_line(rule)),
+        Refusal::NoCrash => plain_line("no crash\n"),
+        Refusal::StillRunning => plain_line("still running\n"),
+        Refusal::Spent { first, width } => spent_line(first, width),
+        Refusal::NotAReport { line } => numbered_line("not a report: line ", line),
+        Refusal::WrongProgram => plain_line("wrong program\n"),
+        Refusal::Differs { line } => numbered_line("differs: line ", line),
     }
 }
 
 /// The line of a file that breaks a rule.
 #[tactic(auto, unfolding(crate::specs::Refusals::message_of, crate::specs::Refusals::rule_name))]
-fn rule_line(rule: ElfError) -> &'static [u8]
-    ensures { result.now ≡ line_of (NotAProgram rule) }
+fn rule_line(rule: ElfError) -> &'static str
+    ensures line { result.now ≡ line_of (NotAProgram rule) }
+    ensures short { length result.now ≤ 96 }
 {
     match rule {
-        ElfError::Short => b"not a program: E1 short\n",
-        ElfError::NotElf => b"not a program: E2 not-elf\n",
-        ElfError::Class => b"not a program: E3 class\n",
-        ElfError::Data => b"not a program: E4 data\n",
-        ElfError::Kind => b"not a program: E5 kind\n",
-        ElfError::Machine => b"not a program: E6 machine\n",
-        ElfError::Flags => b"not a program: E7 flags\n",
-        ElfError::Table => b"not a program: E8 table\n",
-        ElfError::Dynamic => b"not a program: E9 dynamic\n",
-        ElfError::Segment => b"not a program: E10 segment\n",
-        ElfError::Overlap => b"not a program: E11 overlap\n",
-        ElfError::TooBig => b"not a program: E12 too-big\n",
-        ElfError::Entry => b"not a program: E13 entry\n",
-        ElfError::NoMemory => b"not a program: \n",
+        ElfError::Short => "not a program: E1 short\n",
+        ElfError::NotElf => "not a program: E2 not-elf\n",
+        ElfError::Class => "not a program: E3 class\n",
+        ElfError::Data => "not a program: E4 data\n",
+        ElfError::Kind => "not a program: E5 kind\n",
+        ElfError::Machine => "not a program: E6 machine\n",
+        ElfError::Flags => "not a program: E7 flags\n",
+        ElfError::Table => "not a program: E8 table\n",
+        ElfError::Dynamic => "not a program: E9 dynamic\n",
+        ElfError::Segment => "not a program: E10 segment\n",
+        ElfError::Overlap => "not a program: E11 overlap\n",
+        ElfError::TooBig => "not a program: E12 too-big\n",
+        ElfError::Entry => "not a program: E13 entry\n",
+        ElfError::NoMemory => "not a program: \n",
     }
 }

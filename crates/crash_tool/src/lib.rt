@@ -3,6 +3,7 @@
 //! [`tool::run_tool`] is all that the program does, over any folder and any sinks.
 #![tactic(auto)]
 
+mod actions;
 pub mod answer;
 mod demo;
 pub mod laws;

@@ -2,12 +2,9 @@
 
 ghost use Rattle.std.specs.Prelude.{◌≡◌, ◌≤◌, OnOk, OnErr};
 ghost use Rattle.fault_io.specs.Faults.{Rose, after_taking, TookPrefix};
-ghost use Rattle.crash_tool.specs.Refusals.{line_of};
 ghost use Rattle.crash_tool.specs.Call.{change, Says, TakesLine};
 
-use crate::answer::{
-    Answer, Refusal, differs_line, line_of, not_a_report_line, spent_line, status_of,
-};
+use crate::answer::{Answer, line_of, status_of};
 use fault_io::{Failed, Sink};
 
 /// The most bytes that are put at once: a piece has to be shorter than 2^32 bytes.
@@ -38,28 +35,6 @@ fn put_line<E: Sink>(err: &mut E, line: &[u8])
     let _ = put_all(err, line);
 }
 
-/// Puts the line of a refusal, as far as it goes.
-fn put_refusal<E: Sink>(err: &mut E, refusal: Refusal)
-    ensures line { TakesLine (change E.holds E.faults err.old err.new) (line_of refusal) }
-    ensures counts { E.faults err.old ≤ E.faults err.new }
-{
-    match refusal {
-        Refusal::Spent { first, width } => {
-            let line = spent_line(first, width);
-            put_line(err, line.as_str().as_bytes());
-        }
-        Refusal::NotAReport { line } => {
-            let line = not_a_report_line(line);
-            put_line(err, line.as_str().as_bytes());
-        }
-        Refusal::Differs { line } => {
-            let line = differs_line(line);
-            put_line(err, line.as_str().as_bytes());
-        }
-        _ => put_line(err, line_of(refusal)),
-    }
-}
-
 /// Says an answer, and answers the status: a text goes to out, a refusal's line to err.
 pub fn say<O: Sink, E: Sink>(out: &mut O, err: &mut E, answer: &Answer) -> u8
     ensures said { Says answer.now (change O.holds O.faults out.old out.new) (change E.holds E.faults err.old err.new) result }
@@ -74,7 +49,7 @@ pub fn say<O: Sink, E: Sink>(out: &mut O, err: &mut E, answer: &Answer) -> u8
             }
         },
         Err(refusal) => {
-            put_refusal(err, *refusal);
+            put_line(err, line_of(*refusal).as_str().as_bytes());
             status_of(*refusal)
         }
     }

@@ -10,41 +10,18 @@ ghost use Rattle.crash_tool.specs.Refusals.{out_of, err_of, IsLineOf, IsGiven};
 ghost use Rattle.tool_words.specs.Words.{make_of, asked_of, task_of, task_value, AreWithin};
 ghost use Rattle.crash_tool.specs.Made.{transcript_under};
 ghost use Rattle.crash_tool.specs.Outcome.{outcome};
-ghost use Rattle.crash_tool.specs.Received.{IsAccepted};
-ghost use Rattle.crash_tool.specs.Answers.{IsAnswerTo, ReadsFiles, files_for, IsDone, IsAnswerOf, read_of, role_of, limit_of};
+ghost use Rattle.crash_tool.specs.Answers.{IsAnswerTo, ReadsFiles, files_for, IsDone, read_of, limit_of};
 ghost use Rattle.crash_tool.specs.Call.{change, Gives, TakesLine, TakesNothing, Takes, TakesPrefix, HasFault, HasNoFault};
-ghost use Rattle.crash_tool.specs.Call.{OfRight, IsReadFault, IsBut, IsRightBut, IsReadBut, IsCannotRead, IsStatusBut, IsOfFiles};
+ghost use Rattle.crash_tool.specs.Call.{OfRight, IsReadFault, IsRightBut, IsReadBut, IsCannotRead, IsStatusBut};
 ghost use Rattle.crash_tool.specs.Call.{IsReceived};
 
+use crate::actions::{answer_of, limit_of, role_of};
 use crate::answer::{Answer, Refusal, Role};
 use crate::demo::demo;
-use crate::outcome::outcome;
-use crate::receiver::{check, replay, run};
 use crate::say::say;
 use fault_io::{Bytes, FetchFault, Fetched, Folder, Sink};
 use std::alloc::Global;
-use tool_words::{Action, Asked, Options, Task, read_words};
-
-/// The most bytes of a file.
-fn limit_of(role: Role) -> u32
-    ensures { result ≡ limit_of role }
-{
-    match role {
-        Role::Program => 16_777_216,
-        Role::Input => 65_536,
-        Role::Report => 8_388_608,
-    }
-}
-
-/// What an action's second file is.
-fn role_of(action: Action) -> Role
-    ensures { result ≡ role_of action }
-{
-    match action {
-        Action::Make | Action::Run => Role::Input,
-        Action::Replay | Action::Check => Role::Report,
-    }
-}
+use tool_words::{Action, Asked, Task, read_words};
 
 /// The bytes of a file, or why there are none.
 fn read<F: Folder>(alloc: Global, folder: &mut F, name: &str, role: Role) -> Result<Bytes, Refusal>
@@ -64,29 +41,6 @@ fn read<F: Folder>(alloc: Global, folder: &mut F, name: &str, role: Role) -> Res
         Ok(Fetched::Missing) => Err(Refusal::CannotRead(role)),
         Err(FetchFault::Failed) => Err(Refusal::CannotRead(role)),
         Err(FetchFault::NoMemory) => Err(Refusal::NoMemory),
-    }
-}
-
-/// The answer of an action to a program and a second file.
-fn answer_of(
-    alloc: Global,
-    action: Action,
-    program: &[u8],
-    options: Options,
-    second: &[u8],
-) -> Answer
-    requires short { length program.now ≤ limit_of Role.Program }
-    requires few { length second.now ≤ limit_of (role_of action) }
-    requires options { AreWithin options }
-    ensures answer { IsBut (IsAnswerOf action program.now options second.now) result }
-    ensures accepted { action ≡ Action.Check → IfOk result (λ _. IsAccepted program.now options second.now) }
-    ensures kind { IfErr result IsOfFiles }
-{
-    match action {
-        Action::Make => outcome(alloc, program, options, second),
-        Action::Run => run(alloc, program, options, second),
-        Action::Replay => replay(alloc, program, second),
-        Action::Check => check(alloc, program, options, second),
     }
 }
 
