@@ -18,6 +18,4 @@ pub use folder::{FetchFault, Fetched, FileList, Folder, NamedFile, SteadyFolder}
 pub use host::{HostFolder, HostSink};
 pub use mem_folder::{MemFolder, ReadList};
 pub use sink::{Failed, MemSink, Sink};
-
-#[cfg(test)]
-mod tests;
+pub use source::fetch_opened;

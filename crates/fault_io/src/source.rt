@@ -88,7 +88,7 @@ fn read_up_to<R: Read + Drop>(
 }
 
 /// What a fetch answers of a file, once it was opened or not.
-pub(crate) fn fetch_opened<R: Read + Drop>(
+pub fn fetch_opened<R: Read + Drop>(
     alloc: Global,
     opened: io::Result<R>,
     limit: u32,

@@ -78,39 +78,3 @@ impl Transcript {
 pub fn same_transcripts_are_equal()
     ensures { (a b : run.Transcript) → IsTrue (same_transcript a b) ↔ (a ≡ b) }
 {}
-
-#[cfg(test)]
-mod tests {
-    use super::{Events, Transcript};
-    use crate::event::{End, Event, EventKind};
-    use std::alloc::{AllocError, Global};
-    use std::test::Fail;
-
-    /// A run of one instruction on an input of three bytes.
-    fn run_of(alloc: Global, word: u32, end: End) -> Result<Transcript, AllocError> {
-        let event = Event {
-            pc: 0x10000,
-            word,
-            addr: 0,
-            call: [0; 4],
-            kind: EventKind::Plain,
-        };
-        let mut events = Vec::new(alloc);
-        events.push(event)?;
-        Ok(Transcript {
-            n: 3,
-            events: Events::from_vec(events),
-            end,
-        })
-    }
-
-    #[test]
-    fn runs_agree_by_all_their_parts(rt: HostRuntime) -> Result<(), Fail> {
-        let alloc = rt.alloc();
-        let first = run_of(alloc, 0x13, End::Exit(7))?;
-        assert!(rt; first.agrees(&run_of(alloc, 0x13, End::Exit(7))?));
-        assert!(rt; !first.agrees(&run_of(alloc, 0x93, End::Exit(7))?));
-        assert!(rt; !first.agrees(&run_of(alloc, 0x13, End::Limit)?));
-        Ok(())
-    }
-}

@@ -9,8 +9,6 @@
 mod covered;
 mod last_sixteen;
 pub mod laws;
-#[cfg(test)]
-mod tests;
 mod watch;
 
 pub use covered::{Covered, CoveredStep, covered_step};

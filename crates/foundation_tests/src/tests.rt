@@ -1,0 +1,7 @@
+//! What the lower crates answer, by rows of worked cases.
+
+mod files;
+mod numbers;
+mod runs;
+mod sets;
+mod sinks;
