@@ -16,6 +16,12 @@ use Rattle.word_gates.proofs.MoveLemmas.{no_lit, trees_same, no_lit_tree}
 pub still_yes : (old new : List Tree) → Extends old new → 0 < length old → HasYes old → HasYes new
 still_yes old new k h e = k.same 0 h ∙ e
 
+-- a step leaves the difference or what was left
+pub left_trees : (old mid next : List Tree) (left bits more : List Lit) (fits : Lit) (C : Signed) (S : List Signed) → Extends old mid → AreNamed (length old) left → signed_of mid fits ≡ C → all_signed_of mid bits ≡ S →
+    all_signed_of next more ≡ choose tree_gates (signed_of mid fits) (all_signed_of mid bits) (all_signed_of mid left) → all_signed_of next more ≡ choose tree_gates C S (all_signed_of old left)
+left_trees old mid next left bits more fits C S grows below c s m =
+    m ∙ ap (λ x. choose tree_gates x (all_signed_of mid bits) (all_signed_of mid left)) c ∙ ap (λ x. choose tree_gates C x (all_signed_of mid left)) s ∙ ap (choose tree_gates C S) (kept_all old mid left grows below)
+
 pub record IsDividing (start now : List Tree) (a b divisor left quot : List Lit) (done : ℕ) : Type 0 where
   pub keeps : Extends start now
   pub has : HasYes now

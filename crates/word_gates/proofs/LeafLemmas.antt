@@ -2,7 +2,7 @@
 use Rattle.std.proofs.Common.{◌≡◌, ℕ, zero, suc, ◌+◌, ◌/◌, ◌%◌, ◌<◌, List, [], ◌∷◌, ◌++◌, Bool, true, false, ◌==◌, length, refl, sym, ap, ◌∙◌, subst, arith, append_assoc, length-append}
 use Rattle.std.specs.Prelude.{map, cond, replicate}
 use Rattle.std.proofs.lemmas.List.{map-append, length-map}
-use Rattle.std.proofs.lemmas.List.Elements.{All-append, All-replicate, All-nil, All-cons}
+use Rattle.std.proofs.lemmas.List.Elements.{All-nil, All-cons}
 use Rattle.gate_model.specs.Tree.{Tree, Signed, Bit, plain}
 use Rattle.gate_model.specs.Makers.{yes as yes_tree, no as no_tree, tree_gates}
 use Rattle.gate_net.specs.declared.literals.Lit.{Lit}
@@ -13,7 +13,7 @@ use Rattle.blast_model.specs.Blast.{input_bits}
 use Rattle.gate_net.specs.Lits.{AreNamed}
 use Rattle.word_gates.specs.Lits.{HasYes, AreMade}
 use Rattle.word_gates.proofs.NetLemmas.{kept_all, still_all, itself, turns, below_push, trees_push, append_none}
-use Rattle.word_gates.proofs.MoveLemmas.{no_lit, trees_same, no_lit_tree}
+use Rattle.word_gates.proofs.MoveLemmas.{no_lit, trees_same, no_lit_tree, below_filled, width_filled}
 
 -- the Lit of a constant bit
 abbrev pub lit_of : Bool → Lit
@@ -88,10 +88,10 @@ input_more start now next place k bits bit so grows below tree =
 
 module _ (start net : List Tree) (place : ℕ) (bits : List Lit) (so : IsInputSoFar start net place 8 bits) (has : HasYes net) (some : 0 < length net) where
   pub input_below : AreNamed (length net) (bits ++ replicate 24 no_lit)
-  input_below = All-append (λ (l : Lit). l.name < length net) bits (replicate 24 no_lit) so.below (All-replicate (λ (l : Lit). l.name < length net) 24 no_lit some)
+  input_below = below_filled (length net) 24 bits some so.below
 
   pub input_trees : all_signed_of net (bits ++ replicate 24 no_lit) ≡ input_bits place
   input_trees = map-append (signed_of net) bits (replicate 24 no_lit) ∙ ap (λ ts. ts ++ all_signed_of net (replicate 24 no_lit)) so.so_far ∙ ap (λ ts. low_trees place 8 ++ ts) (trees_same net 24 no_lit ∙ ap (replicate 24) (no_lit_tree net has))
 
   pub input_width : length (bits ++ replicate 24 no_lit) ≡ 32
-  input_width = length-append bits (replicate 24 no_lit) ∙ ap (λ n. n + 24) so.width
+  input_width = width_filled 24 bits ∙ ap (λ n. n + 24) so.width

@@ -56,6 +56,13 @@ width_down fill k a = omega (arith, length-drop k (a ++ replicate k fill), lengt
 pub width_in : (lowest : Lit) (a : List Lit) → length (take (length a) (lowest ∷ a)) ≡ length a
 width_in lowest a = omega (arith, length-take (length a) (lowest ∷ a))
 
+-- a word with no above
+pub below_filled : (n k : ℕ) (bits : List Lit) → 0 < n → AreNamed n bits → AreNamed n (bits ++ replicate k no_lit)
+below_filled n k bits some below = All-append (λ (l : Lit). l.name < n) bits (replicate k no_lit) below (All-replicate (λ (l : Lit). l.name < n) k no_lit some)
+
+pub width_filled : (k : ℕ) (bits : List Lit) → length (bits ++ replicate k no_lit) ≡ length bits + k
+width_filled k bits = length-append bits (replicate k no_lit) ∙ ap (λ n. length bits + n) (length-replicate k no_lit)
+
 -- the other sign
 abbrev pub turned : Lit → Lit
 turned l = record { name = l.name; positive = opposite l.positive }

@@ -14,7 +14,7 @@ use Rattle.word_gates.specs.Lits.{HasYes, AreMade}
 use Rattle.word_gates.proofs.NetLemmas.{kept, kept_all, itself, turns, lit_at, drop_at, below_at, drop_all}
 use Rattle.word_gates.proofs.MoveLemmas.{no_lit, trees_same, no_lit_tree}
 
-pub under_at_each : (b : Signed) (xs : List Signed) → at_each tree_gates and_gate xs (replicate (length xs) b) ≡ under tree_gates b xs
+under_at_each : (b : Signed) (xs : List Signed) → at_each tree_gates and_gate xs (replicate (length xs) b) ≡ under tree_gates b xs
 under_at_each b [] = refl
 under_at_each b (x ∷ xs) = ap (λ ts. and_gate x b ∷ ts) (under_at_each b xs)
 

@@ -5,6 +5,7 @@ ghost use Rattle.gate_model.specs.Makers.{and_gate, xor_gate, or_gate, tree_gate
 ghost use Rattle.gate_net.specs.Trees.{signed_of, all_signed_of, Extends};
 ghost use Rattle.word_bits.specs.Circuits.{sum, carry};
 ghost use Rattle.gate_net.specs.Lits.{AreNamed};
+ghost use Rattle.word_gates.specs.Lits.{IsBit, AreWord};
 
 use gate_net::{Lit, Net};
 use no_memory::NoMemory;
@@ -29,13 +30,11 @@ fn full_adder(net: &mut Net, a: Lit, b: Lit, carry: Lit) -> Result<Digit, NoMemo
     requires first { a.name < length net.old }
     requires second { b.name < length net.old }
     requires carry { carry.name < length net.old }
-    ensures sum_below { IfOk result (λ d. d.sum.name < length net.new) }
-    ensures carry_below { IfOk result (λ d. d.carry.name < length net.new) }
-    ensures sum { IfOk result (λ d. signed_of net.new d.sum ≡
-        xor_gate (xor_gate (signed_of net.old a) (signed_of net.old b)) (signed_of net.old carry)) }
-    ensures carry { IfOk result (λ d. signed_of net.new d.carry ≡
-        or_gate (and_gate (signed_of net.old a) (signed_of net.old b))
-        (and_gate (signed_of net.old carry) (xor_gate (signed_of net.old a) (signed_of net.old b)))) }
+    ensures sum { IfOk result (λ d. IsBit net.new
+        (xor_gate (xor_gate (signed_of net.old a) (signed_of net.old b)) (signed_of net.old carry)) d.sum) }
+    ensures carry { IfOk result (λ d. IsBit net.new
+        (or_gate (and_gate (signed_of net.old a) (signed_of net.old b))
+        (and_gate (signed_of net.old carry) (xor_gate (signed_of net.old a) (signed_of net.old b)))) d.carry) }
     ensures keeps { Extends net.old net.new }
 {
     let differ = net.xor(a, b)?;
@@ -58,13 +57,10 @@ pub(crate) fn sum(
     requires first { AreNamed (length net.old) a.now }
     requires second { AreNamed (length net.old) b.now }
     requires width { length a.now ≡ length b.now }
-    ensures below { IfOk result (λ s. AreNamed (length net.new) s.bits.items) }
-    ensures carry_below { IfOk result (λ s. s.carry.name < length net.new) }
-    ensures bits { IfOk result (λ s. all_signed_of net.new s.bits.items ≡
-        sum tree_gates (signed_of net.old carry_in) (all_signed_of net.old a.now) (all_signed_of net.old b.now)) }
-    ensures carry { IfOk result (λ s. signed_of net.new s.carry ≡
-        carry tree_gates (signed_of net.old carry_in) (all_signed_of net.old a.now) (all_signed_of net.old b.now)) }
-    ensures width { IfOk result (λ s. length s.bits.items ≡ length a.now) }
+    ensures bits { IfOk result (λ s. AreWord net.new (length a.now)
+        (sum tree_gates (signed_of net.old carry_in) (all_signed_of net.old a.now) (all_signed_of net.old b.now)) s.bits.items) }
+    ensures carry { IfOk result (λ s. IsBit net.new
+        (carry tree_gates (signed_of net.old carry_in) (all_signed_of net.old a.now) (all_signed_of net.old b.now)) s.carry) }
     ensures keeps { Extends net.old net.new }
 {
     let mut bits = Vec::new(alloc);

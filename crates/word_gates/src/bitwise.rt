@@ -1,10 +1,11 @@
 //! Gates at each place of two words.
 
-ghost use Rattle.std.specs.Prelude.{◌≡◌, ◌<◌, ◌≤◌, length, IfOk};
+ghost use Rattle.std.specs.Prelude.{◌≡◌, ◌<◌, length, IfOk};
 ghost use Rattle.gate_model.specs.Makers.{tree_gates};
 ghost use Rattle.gate_net.specs.Trees.{signed_of, all_signed_of, Extends};
-ghost use Rattle.word_bits.specs.Circuits.{at_each, choose, equal};
+ghost use Rattle.word_bits.specs.Circuits.{at_each};
 ghost use Rattle.gate_net.specs.Lits.{AreNamed};
+ghost use Rattle.word_gates.specs.Lits.{AreWord, IsBit};
 ghost use Rattle.word_gates.specs.Places.{gate_of, BelongsTo};
 
 use gate_net::{Lit, Net};
@@ -26,8 +27,8 @@ fn make(net: &mut Net, gate: BitGate, a: Lit, b: Lit) -> Result<Lit, NoMemory>
     requires gate { BelongsTo (length net.old) gate }
     requires first { a.name < length net.old }
     requires second { b.name < length net.old }
-    ensures below { IfOk result (λ l. l.name < length net.new) }
-    ensures tree { IfOk result (λ l. signed_of net.new l ≡ gate_of net.old gate (signed_of net.old a) (signed_of net.old b)) }
+    ensures bit { IfOk result (λ l. IsBit net.new
+        (gate_of net.old gate (signed_of net.old a) (signed_of net.old b)) l) }
     ensures keeps { Extends net.old net.new }
 {
     match gate {
@@ -50,10 +51,8 @@ pub(crate) fn each(
     requires first { AreNamed (length net.old) a.now }
     requires second { AreNamed (length net.old) b.now }
     requires width { length a.now ≡ length b.now }
-    ensures below { IfOk result (λ r. AreNamed (length net.new) r.items) }
-    ensures trees { IfOk result (λ r. all_signed_of net.new r.items ≡
-        at_each tree_gates (gate_of net.old gate) (all_signed_of net.old a.now) (all_signed_of net.old b.now)) }
-    ensures width { IfOk result (λ r. length r.items ≡ length a.now) }
+    ensures word { IfOk result (λ r. AreWord net.new (length a.now)
+        (at_each tree_gates (gate_of net.old gate) (all_signed_of net.old a.now) (all_signed_of net.old b.now)) r.items) }
     ensures keeps { Extends net.old net.new }
 {
     let mut bits = Vec::new(alloc);

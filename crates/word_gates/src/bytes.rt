@@ -5,7 +5,7 @@ ghost use Rattle.gate_model.specs.Makers.{tree_gates};
 ghost use Rattle.gate_net.specs.Trees.{signed_of, all_signed_of, Extends};
 ghost use Rattle.word_bits.specs.Circuits.{choose, byte_at, named_byte, pair, halves};
 ghost use Rattle.gate_net.specs.Lits.{AreNamed};
-ghost use Rattle.word_gates.specs.Lits.{AreMade};
+ghost use Rattle.word_gates.specs.Lits.{AreMade, AreWord};
 
 use crate::bitwise::{BitGate, each};
 use gate_net::{Lit, Net};
@@ -25,11 +25,9 @@ fn one_of_bytes(
     requires word { AreNamed (length net.old) a.now }
     requires first { first + 8 ≤ length a.now }
     requires second { second + 8 ≤ length a.now }
-    ensures below { IfOk result (λ r. AreNamed (length net.new) r.items) }
-    ensures trees { IfOk result (λ r. all_signed_of net.new r.items ≡
-        choose tree_gates (signed_of net.old choice) (byte_at tree_gates first (all_signed_of net.old a.now))
-        (byte_at tree_gates second (all_signed_of net.old a.now))) }
-    ensures width { IfOk result (λ r. length r.items ≡ 8) }
+    ensures word { IfOk result (λ r. AreWord net.new 8
+        (choose tree_gates (signed_of net.old choice) (byte_at tree_gates first (all_signed_of net.old a.now))
+        (byte_at tree_gates second (all_signed_of net.old a.now))) r.items) }
     ensures keeps { Extends net.old net.new }
 {
     let upper = &a[first..first + 8];
@@ -50,10 +48,8 @@ pub(crate) fn named_byte(
     requires second { AreNamed (length net.old) b.now }
     requires first_width { length a.now ≡ 32 }
     requires second_width { length b.now ≡ 32 }
-    ensures below { IfOk result (λ r. AreNamed (length net.new) r.items) }
-    ensures trees { IfOk result (λ r. all_signed_of net.new r.items
-        ≡ named_byte tree_gates (all_signed_of net.old a.now) (all_signed_of net.old b.now)) }
-    ensures width { IfOk result (λ r. length r.items ≡ 32) }
+    ensures word { IfOk result (λ r. AreWord net.new 32
+        (named_byte tree_gates (all_signed_of net.old a.now) (all_signed_of net.old b.now)) r.items) }
     ensures keeps { Extends net.old net.new }
 {
     let upper = one_of_bytes(alloc, net, b[0], a, 24, 16)?;

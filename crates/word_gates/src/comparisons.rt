@@ -1,12 +1,12 @@
 //! Comparisons of words, and truth values as words.
 
-ghost use Rattle.std.specs.Prelude.{◌≡◌, ℕ, ◌<◌, ◌≤◌, length, IfOk, OnOk, List};
+ghost use Rattle.std.specs.Prelude.{◌≡◌, ℕ, ◌<◌, length, IfOk, List};
 ghost use Rattle.gate_model.specs.Tree.{Tree};
 ghost use Rattle.gate_model.specs.Makers.{tree_gates};
 ghost use Rattle.gate_net.specs.Trees.{signed_of, all_signed_of, Extends};
 ghost use Rattle.word_bits.specs.Circuits.{nots, sum, carry, sign, less, turn_sign, less_signed, equal, truth};
 ghost use Rattle.gate_net.specs.Lits.{AreNamed};
-ghost use Rattle.word_gates.specs.Lits.{HasYes, KeepBelow, AreMade};
+ghost use Rattle.word_gates.specs.Lits.{KeepBelow, AreMade, IsBit, AreWord};
 
 use crate::adders::{Total, sum};
 use crate::moves::nots;
@@ -24,13 +24,10 @@ pub(crate) fn difference(
     requires first { AreNamed (length net.old) a.now }
     requires second { AreNamed (length net.old) b.now }
     requires width { length a.now ≡ length b.now }
-    ensures below { IfOk result (λ s. AreNamed (length net.new) s.bits.items) }
-    ensures carry_below { IfOk result (λ s. s.carry.name < length net.new) }
-    ensures bits { IfOk result (λ s. all_signed_of net.new s.bits.items ≡
-        sum tree_gates (tree_gates.yes) (all_signed_of net.old a.now) (nots tree_gates (all_signed_of net.old b.now))) }
-    ensures carry { IfOk result (λ s. signed_of net.new s.carry ≡
-        carry tree_gates (tree_gates.yes) (all_signed_of net.old a.now) (nots tree_gates (all_signed_of net.old b.now))) }
-    ensures width { IfOk result (λ s. length s.bits.items ≡ length a.now) }
+    ensures bits { IfOk result (λ s. AreWord net.new (length a.now)
+        (sum tree_gates (tree_gates.yes) (all_signed_of net.old a.now) (nots tree_gates (all_signed_of net.old b.now))) s.bits.items) }
+    ensures carry { IfOk result (λ s. IsBit net.new
+        (carry tree_gates (tree_gates.yes) (all_signed_of net.old a.now) (nots tree_gates (all_signed_of net.old b.now))) s.carry) }
     ensures keeps { Extends net.old net.new }
 {
     let _net = net.len();
@@ -44,8 +41,8 @@ pub(crate) fn less(alloc: Global, net: &mut Net, a: &[Lit], b: &[Lit]) -> Result
     requires first { AreNamed (length net.old) a.now }
     requires second { AreNamed (length net.old) b.now }
     requires width { length a.now ≡ length b.now }
-    ensures below { IfOk result (λ l. l.name < length net.new) }
-    ensures tree { IfOk result (λ l. signed_of net.new l ≡ less tree_gates (all_signed_of net.old a.now) (all_signed_of net.old b.now)) }
+    ensures bit { IfOk result (λ l. IsBit net.new
+        (less tree_gates (all_signed_of net.old a.now) (all_signed_of net.old b.now)) l) }
     ensures keeps { Extends net.old net.new }
 {
     let total = difference(alloc, net, a, b)?;
@@ -86,8 +83,8 @@ pub(crate) fn less_signed(
     requires first { AreNamed (length net.old) a.now }
     requires second { AreNamed (length net.old) b.now }
     requires width { length a.now ≡ length b.now }
-    ensures below { IfOk result (λ l. l.name < length net.new) }
-    ensures tree { IfOk result (λ l. signed_of net.new l ≡ less_signed tree_gates (all_signed_of net.old a.now) (all_signed_of net.old b.now)) }
+    ensures bit { IfOk result (λ l. IsBit net.new
+        (less_signed tree_gates (all_signed_of net.old a.now) (all_signed_of net.old b.now)) l) }
     ensures keeps { Extends net.old net.new }
 {
     let _net = net.len();
@@ -112,8 +109,8 @@ pub(crate) fn equal(net: &mut Net, a: &[Lit], b: &[Lit]) -> Result<Lit, NoMemory
     requires first { AreNamed (length net.old) a.now }
     requires second { AreNamed (length net.old) b.now }
     requires width { length a.now ≡ length b.now }
-    ensures below { IfOk result (λ l. l.name < length net.new) }
-    ensures tree { IfOk result (λ l. signed_of net.new l ≡ equal tree_gates (all_signed_of net.old a.now) (all_signed_of net.old b.now)) }
+    ensures bit { IfOk result (λ l. IsBit net.new
+        (equal tree_gates (all_signed_of net.old a.now) (all_signed_of net.old b.now)) l) }
     ensures keeps { Extends net.old net.new }
 {
     let _net = net.len();

@@ -1,11 +1,11 @@
 //! Division bit by bit.
 
-ghost use Rattle.std.specs.Prelude.{◌≡◌, ℕ, ◌<◌, ◌≤◌, ◌+◌, length, IfOk, take};
+ghost use Rattle.std.specs.Prelude.{◌≡◌, ◌<◌, ◌+◌, length, IfOk};
 ghost use Rattle.gate_model.specs.Makers.{tree_gates};
-ghost use Rattle.gate_net.specs.Trees.{signed_of, all_signed_of, Extends};
+ghost use Rattle.gate_net.specs.Trees.{all_signed_of, Extends};
 ghost use Rattle.word_bits.specs.Circuits.{nots, sum, carry, choose, rest_of, quotient};
 ghost use Rattle.gate_net.specs.Lits.{AreNamed};
-ghost use Rattle.word_gates.specs.Lits.{AreMade};
+ghost use Rattle.word_gates.specs.Lits.{IsBit, AreWord};
 
 use crate::bitwise::{BitGate, each};
 use crate::comparisons::difference;
@@ -29,20 +29,17 @@ pub(crate) struct Division {
 }
 
 /// Takes the divisor, which has a bit more, off what is left, where it can.
-#[tactic(auto, using(crate::proofs::NetLemmas::turns, crate::proofs::NetLemmas::kept_all))]
+#[tactic(auto, using(crate::proofs::NetLemmas::turns))]
 fn step(alloc: Global, net: &mut Net, divisor: &[Lit], left: &[Lit]) -> Result<Taken, NoMemory>
     requires divisor { AreNamed (length net.old) divisor.now }
     requires left { AreNamed (length net.old) left.now }
     requires width { length left.now ≡ length divisor.now }
-    ensures fits_below { IfOk result (λ s. s.fits.name < length net.new) }
-    ensures left_below { IfOk result (λ s. AreNamed (length net.new) s.left.items) }
-    ensures fits { IfOk result (λ s. signed_of net.new s.fits ≡
-        carry tree_gates (tree_gates.yes) (all_signed_of net.old left.now) (nots tree_gates (all_signed_of net.old divisor.now))) }
-    ensures left { IfOk result (λ s. all_signed_of net.new s.left.items ≡
-        choose tree_gates (carry tree_gates (tree_gates.yes) (all_signed_of net.old left.now) (nots tree_gates (all_signed_of net.old divisor.now)))
+    ensures fits { IfOk result (λ s. IsBit net.new
+        (carry tree_gates (tree_gates.yes) (all_signed_of net.old left.now) (nots tree_gates (all_signed_of net.old divisor.now))) s.fits) }
+    ensures left { IfOk result (λ s. AreWord net.new (length left.now)
+        (choose tree_gates (carry tree_gates (tree_gates.yes) (all_signed_of net.old left.now) (nots tree_gates (all_signed_of net.old divisor.now)))
         (sum tree_gates (tree_gates.yes) (all_signed_of net.old left.now) (nots tree_gates (all_signed_of net.old divisor.now)))
-        (all_signed_of net.old left.now)) }
-    ensures width { IfOk result (λ s. length s.left.items ≡ length left.now) }
+        (all_signed_of net.old left.now)) s.left.items) }
     ensures keeps { Extends net.old net.new }
 {
     let total = difference(alloc, net, left, divisor)?;
@@ -62,14 +59,10 @@ pub(crate) fn divide(
 ) -> Result<Division, NoMemory>
     requires first { AreNamed (length net.old) a.now }
     requires second { AreNamed (length net.old) b.now }
-    ensures quotient_below { IfOk result (λ d. AreNamed (length net.new) d.quotient.items) }
-    ensures left_below { IfOk result (λ d. AreNamed (length net.new) d.left.items) }
-    ensures quotient { IfOk result (λ d. all_signed_of net.new d.quotient.items
-        ≡ quotient tree_gates (all_signed_of net.old a.now) (all_signed_of net.old b.now)) }
-    ensures left { IfOk result (λ d. all_signed_of net.new d.left.items
-        ≡ rest_of tree_gates (all_signed_of net.old a.now) (all_signed_of net.old b.now)) }
-    ensures quotient_width { IfOk result (λ d. length d.quotient.items ≡ length a.now) }
-    ensures left_width { IfOk result (λ d. length d.left.items ≡ length b.now + 1) }
+    ensures quotient { IfOk result (λ d. AreWord net.new (length a.now)
+        (quotient tree_gates (all_signed_of net.old a.now) (all_signed_of net.old b.now)) d.quotient.items) }
+    ensures left { IfOk result (λ d. AreWord net.new (length b.now + 1)
+        (rest_of tree_gates (all_signed_of net.old a.now) (all_signed_of net.old b.now)) d.left.items) }
     ensures keeps { Extends net.old net.new }
 {
     let _net = net.len();

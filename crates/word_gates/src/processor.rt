@@ -6,6 +6,7 @@ ghost use Rattle.gate_net.specs.Trees.{all_signed_of, Extends};
 ghost use Rattle.word_bits.specs.Circuits.{nots, sum, sign, less, less_signed, equal, truth, shift_right, upper_product, quotient};
 ghost use Rattle.word_bits.specs.Operations.{alu_bits};
 ghost use Rattle.gate_net.specs.Lits.{AreNamed};
+ghost use Rattle.word_gates.specs.Lits.{AreWord};
 
 use crate::adders::sum;
 use crate::bitwise::{BitGate, each};
@@ -25,10 +26,8 @@ fn add(alloc: Global, net: &mut Net, a: &[Lit], b: &[Lit]) -> Result<Vec<Lit>, N
     requires second { AreNamed (length net.old) b.now }
     requires first_width { length a.now ≡ 32 }
     requires second_width { length b.now ≡ 32 }
-    ensures below { IfOk result (λ r. AreNamed (length net.new) r.items) }
-    ensures trees { IfOk result (λ r. all_signed_of net.new r.items
-        ≡ sum tree_gates (tree_gates.no) (all_signed_of net.old a.now) (all_signed_of net.old b.now)) }
-    ensures width { IfOk result (λ r. length r.items ≡ 32) }
+    ensures word { IfOk result (λ r. AreWord net.new 32
+        (sum tree_gates (tree_gates.no) (all_signed_of net.old a.now) (all_signed_of net.old b.now)) r.items) }
     ensures keeps { Extends net.old net.new }
 {
     let _net = net.len();
@@ -42,10 +41,8 @@ fn subtract(alloc: Global, net: &mut Net, a: &[Lit], b: &[Lit]) -> Result<Vec<Li
     requires second { AreNamed (length net.old) b.now }
     requires first_width { length a.now ≡ 32 }
     requires second_width { length b.now ≡ 32 }
-    ensures below { IfOk result (λ r. AreNamed (length net.new) r.items) }
-    ensures trees { IfOk result (λ r. all_signed_of net.new r.items
-        ≡ sum tree_gates (tree_gates.yes) (all_signed_of net.old a.now) (nots tree_gates (all_signed_of net.old b.now))) }
-    ensures width { IfOk result (λ r. length r.items ≡ 32) }
+    ensures word { IfOk result (λ r. AreWord net.new 32
+        (sum tree_gates (tree_gates.yes) (all_signed_of net.old a.now) (nots tree_gates (all_signed_of net.old b.now))) r.items) }
     ensures keeps { Extends net.old net.new }
 {
     let total = difference(alloc, net, a, b)?;
@@ -58,10 +55,8 @@ fn set_less(alloc: Global, net: &mut Net, a: &[Lit], b: &[Lit]) -> Result<Vec<Li
     requires second { AreNamed (length net.old) b.now }
     requires first_width { length a.now ≡ 32 }
     requires second_width { length b.now ≡ 32 }
-    ensures below { IfOk result (λ r. AreNamed (length net.new) r.items) }
-    ensures trees { IfOk result (λ r. all_signed_of net.new r.items
-        ≡ truth tree_gates (less tree_gates (all_signed_of net.old a.now) (all_signed_of net.old b.now))) }
-    ensures width { IfOk result (λ r. length r.items ≡ 32) }
+    ensures word { IfOk result (λ r. AreWord net.new 32
+        (truth tree_gates (less tree_gates (all_signed_of net.old a.now) (all_signed_of net.old b.now))) r.items) }
     ensures keeps { Extends net.old net.new }
 {
     let bit = less(alloc, net, a, b)?;
@@ -76,10 +71,8 @@ fn set_less_signed(alloc: Global, net: &mut Net, a: &[Lit], b: &[Lit]) -> Result
     requires second { AreNamed (length net.old) b.now }
     requires first_width { length a.now ≡ 32 }
     requires second_width { length b.now ≡ 32 }
-    ensures below { IfOk result (λ r. AreNamed (length net.new) r.items) }
-    ensures trees { IfOk result (λ r. all_signed_of net.new r.items
-        ≡ truth tree_gates (less_signed tree_gates (all_signed_of net.old a.now) (all_signed_of net.old b.now))) }
-    ensures width { IfOk result (λ r. length r.items ≡ 32) }
+    ensures word { IfOk result (λ r. AreWord net.new 32
+        (truth tree_gates (less_signed tree_gates (all_signed_of net.old a.now) (all_signed_of net.old b.now))) r.items) }
     ensures keeps { Extends net.old net.new }
 {
     let bit = less_signed(alloc, net, a, b)?;
@@ -99,10 +92,8 @@ pub(crate) fn set_equal(
     requires second { AreNamed (length net.old) b.now }
     requires first_width { length a.now ≡ 32 }
     requires second_width { length b.now ≡ 32 }
-    ensures below { IfOk result (λ r. AreNamed (length net.new) r.items) }
-    ensures trees { IfOk result (λ r. all_signed_of net.new r.items
-        ≡ truth tree_gates (equal tree_gates (all_signed_of net.old a.now) (all_signed_of net.old b.now))) }
-    ensures width { IfOk result (λ r. length r.items ≡ 32) }
+    ensures word { IfOk result (λ r. AreWord net.new 32
+        (truth tree_gates (equal tree_gates (all_signed_of net.old a.now) (all_signed_of net.old b.now))) r.items) }
     ensures keeps { Extends net.old net.new }
 {
     let bit = equal(net, a, b)?;
@@ -122,10 +113,8 @@ fn shift_right_zeros(
     requires second { AreNamed (length net.old) b.now }
     requires first_width { length a.now ≡ 32 }
     requires second_width { length b.now ≡ 32 }
-    ensures below { IfOk result (λ r. AreNamed (length net.new) r.items) }
-    ensures trees { IfOk result (λ r. all_signed_of net.new r.items
-        ≡ shift_right tree_gates (tree_gates.no) (all_signed_of net.old a.now) (all_signed_of net.old b.now)) }
-    ensures width { IfOk result (λ r. length r.items ≡ 32) }
+    ensures word { IfOk result (λ r. AreWord net.new 32
+        (shift_right tree_gates (tree_gates.no) (all_signed_of net.old a.now) (all_signed_of net.old b.now)) r.items) }
     ensures keeps { Extends net.old net.new }
 {
     let _net = net.len();
@@ -144,10 +133,8 @@ fn shift_right_signs(
     requires second { AreNamed (length net.old) b.now }
     requires first_width { length a.now ≡ 32 }
     requires second_width { length b.now ≡ 32 }
-    ensures below { IfOk result (λ r. AreNamed (length net.new) r.items) }
-    ensures trees { IfOk result (λ r. all_signed_of net.new r.items
-        ≡ shift_right tree_gates (sign tree_gates (all_signed_of net.old a.now)) (all_signed_of net.old a.now) (all_signed_of net.old b.now)) }
-    ensures width { IfOk result (λ r. length r.items ≡ 32) }
+    ensures word { IfOk result (λ r. AreWord net.new 32
+        (shift_right tree_gates (sign tree_gates (all_signed_of net.old a.now)) (all_signed_of net.old a.now) (all_signed_of net.old b.now)) r.items) }
     ensures keeps { Extends net.old net.new }
 {
     let fill = sign(a);
@@ -161,11 +148,9 @@ fn upper_signed(alloc: Global, net: &mut Net, a: &[Lit], b: &[Lit]) -> Result<Ve
     requires second { AreNamed (length net.old) b.now }
     requires first_width { length a.now ≡ 32 }
     requires second_width { length b.now ≡ 32 }
-    ensures below { IfOk result (λ r. AreNamed (length net.new) r.items) }
-    ensures trees { IfOk result (λ r. all_signed_of net.new r.items
-        ≡ upper_product tree_gates (sign tree_gates (all_signed_of net.old a.now)) (sign tree_gates (all_signed_of net.old b.now))
-        (all_signed_of net.old a.now) (all_signed_of net.old b.now)) }
-    ensures width { IfOk result (λ r. length r.items ≡ 32) }
+    ensures word { IfOk result (λ r. AreWord net.new 32
+        (upper_product tree_gates (sign tree_gates (all_signed_of net.old a.now)) (sign tree_gates (all_signed_of net.old b.now))
+        (all_signed_of net.old a.now) (all_signed_of net.old b.now)) r.items) }
     ensures keeps { Extends net.old net.new }
 {
     let above = sign(a);
@@ -180,11 +165,9 @@ fn upper_mixed(alloc: Global, net: &mut Net, a: &[Lit], b: &[Lit]) -> Result<Vec
     requires second { AreNamed (length net.old) b.now }
     requires first_width { length a.now ≡ 32 }
     requires second_width { length b.now ≡ 32 }
-    ensures below { IfOk result (λ r. AreNamed (length net.new) r.items) }
-    ensures trees { IfOk result (λ r. all_signed_of net.new r.items
-        ≡ upper_product tree_gates (sign tree_gates (all_signed_of net.old a.now)) (tree_gates.no)
-        (all_signed_of net.old a.now) (all_signed_of net.old b.now)) }
-    ensures width { IfOk result (λ r. length r.items ≡ 32) }
+    ensures word { IfOk result (λ r. AreWord net.new 32
+        (upper_product tree_gates (sign tree_gates (all_signed_of net.old a.now)) (tree_gates.no)
+        (all_signed_of net.old a.now) (all_signed_of net.old b.now)) r.items) }
     ensures keeps { Extends net.old net.new }
 {
     let _net = net.len();
@@ -199,10 +182,8 @@ fn upper_unsigned(alloc: Global, net: &mut Net, a: &[Lit], b: &[Lit]) -> Result<
     requires second { AreNamed (length net.old) b.now }
     requires first_width { length a.now ≡ 32 }
     requires second_width { length b.now ≡ 32 }
-    ensures below { IfOk result (λ r. AreNamed (length net.new) r.items) }
-    ensures trees { IfOk result (λ r. all_signed_of net.new r.items
-        ≡ upper_product tree_gates (tree_gates.no) (tree_gates.no) (all_signed_of net.old a.now) (all_signed_of net.old b.now)) }
-    ensures width { IfOk result (λ r. length r.items ≡ 32) }
+    ensures word { IfOk result (λ r. AreWord net.new 32
+        (upper_product tree_gates (tree_gates.no) (tree_gates.no) (all_signed_of net.old a.now) (all_signed_of net.old b.now)) r.items) }
     ensures keeps { Extends net.old net.new }
 {
     let _net = net.len();
@@ -221,10 +202,8 @@ fn quotient_unsigned(
     requires second { AreNamed (length net.old) b.now }
     requires first_width { length a.now ≡ 32 }
     requires second_width { length b.now ≡ 32 }
-    ensures below { IfOk result (λ r. AreNamed (length net.new) r.items) }
-    ensures trees { IfOk result (λ r. all_signed_of net.new r.items
-        ≡ quotient tree_gates (all_signed_of net.old a.now) (all_signed_of net.old b.now)) }
-    ensures width { IfOk result (λ r. length r.items ≡ 32) }
+    ensures word { IfOk result (λ r. AreWord net.new 32
+        (quotient tree_gates (all_signed_of net.old a.now) (all_signed_of net.old b.now)) r.items) }
     ensures keeps { Extends net.old net.new }
 {
     let division = divide(alloc, net, a, b)?;
@@ -243,10 +222,8 @@ pub(crate) fn alu(
     requires second { AreNamed (length net.old) b.now }
     requires first_width { length a.now ≡ 32 }
     requires second_width { length b.now ≡ 32 }
-    ensures below { IfOk result (λ r. AreNamed (length net.new) r.items) }
-    ensures trees { IfOk result (λ r. all_signed_of net.new r.items
-        ≡ alu_bits tree_gates op (all_signed_of net.old a.now) (all_signed_of net.old b.now)) }
-    ensures width { IfOk result (λ r. length r.items ≡ 32) }
+    ensures word { IfOk result (λ r. AreWord net.new 32
+        (alu_bits tree_gates op (all_signed_of net.old a.now) (all_signed_of net.old b.now)) r.items) }
     ensures keeps { Extends net.old net.new }
 {
     match op {

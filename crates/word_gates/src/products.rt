@@ -1,11 +1,11 @@
 //! Products by rows.
 
-ghost use Rattle.std.specs.Prelude.{◌≡◌, ℕ, ◌<◌, ◌≤◌, ◌+◌, length, IfOk};
+ghost use Rattle.std.specs.Prelude.{◌≡◌, ℕ, ◌<◌, ◌+◌, length, IfOk};
 ghost use Rattle.gate_model.specs.Makers.{tree_gates};
 ghost use Rattle.gate_net.specs.Trees.{signed_of, all_signed_of, Extends};
 ghost use Rattle.word_bits.specs.Circuits.{sum, under, up, product, upper_product, widened};
 ghost use Rattle.gate_net.specs.Lits.{AreNamed};
-ghost use Rattle.word_gates.specs.Lits.{AreMade};
+ghost use Rattle.word_gates.specs.Lits.{AreMade, AreWord};
 
 use crate::adders::sum;
 use crate::bitwise::{BitGate, each};
@@ -15,13 +15,11 @@ use no_memory::NoMemory;
 use std::alloc::Global;
 
 /// Each bit of the word, where `bit` is yes.
-#[tactic(auto, using(crate::proofs::ProductLemmas::under_at_each))]
 fn under(alloc: Global, net: &mut Net, bit: Lit, a: &[Lit]) -> Result<Vec<Lit>, NoMemory>
     requires bit { bit.name < length net.old }
     requires word { AreNamed (length net.old) a.now }
-    ensures below { IfOk result (λ r. AreNamed (length net.new) r.items) }
-    ensures trees { IfOk result (λ r. all_signed_of net.new r.items ≡ under tree_gates (signed_of net.old bit) (all_signed_of net.old a.now)) }
-    ensures width { IfOk result (λ r. length r.items ≡ length a.now) }
+    ensures word { IfOk result (λ r. AreWord net.new (length a.now)
+        (under tree_gates (signed_of net.old bit) (all_signed_of net.old a.now)) r.items) }
     ensures keeps { Extends net.old net.new }
 {
     let bits = vec![in alloc; bit; a.len()]?;
@@ -43,11 +41,9 @@ fn add_row(
     requires bit { bit.name < length net.old }
     requires word { AreNamed (length net.old) a.now }
     requires width { length so_far.now ≡ length a.now }
-    ensures below { IfOk result (λ r. AreNamed (length net.new) r.items) }
-    ensures trees { IfOk result (λ r. all_signed_of net.new r.items ≡
-        sum tree_gates (tree_gates.no) (all_signed_of net.old so_far.now)
-        (up tree_gates place (under tree_gates (signed_of net.old bit) (all_signed_of net.old a.now)))) }
-    ensures width { IfOk result (λ r. length r.items ≡ length a.now) }
+    ensures word { IfOk result (λ r. AreWord net.new (length a.now)
+        (sum tree_gates (tree_gates.no) (all_signed_of net.old so_far.now)
+        (up tree_gates place (under tree_gates (signed_of net.old bit) (all_signed_of net.old a.now)))) r.items) }
     ensures keeps { Extends net.old net.new }
 {
     let taken = under(alloc, net, bit, a)?;
@@ -66,10 +62,8 @@ pub(crate) fn product(
 ) -> Result<Vec<Lit>, NoMemory>
     requires first { AreNamed (length net.old) a.now }
     requires second { AreNamed (length net.old) b.now }
-    ensures below { IfOk result (λ r. AreNamed (length net.new) r.items) }
-    ensures trees { IfOk result (λ r. all_signed_of net.new r.items
-        ≡ product tree_gates (all_signed_of net.old a.now) (all_signed_of net.old b.now)) }
-    ensures width { IfOk result (λ r. length r.items ≡ length a.now) }
+    ensures word { IfOk result (λ r. AreWord net.new (length a.now)
+        (product tree_gates (all_signed_of net.old a.now) (all_signed_of net.old b.now)) r.items) }
     ensures keeps { Extends net.old net.new }
 {
     let _net = net.len();
@@ -105,11 +99,9 @@ pub(crate) fn upper_product(
     requires other_above { other_above.name < length net.old }
     requires first { AreNamed (length net.old) a.now }
     requires second { AreNamed (length net.old) b.now }
-    ensures below { IfOk result (λ r. AreNamed (length net.new) r.items) }
-    ensures trees { IfOk result (λ r. all_signed_of net.new r.items ≡
-        upper_product tree_gates (signed_of net.old above) (signed_of net.old other_above)
-        (all_signed_of net.old a.now) (all_signed_of net.old b.now)) }
-    ensures width { IfOk result (λ r. length r.items ≡ length a.now) }
+    ensures word { IfOk result (λ r. AreWord net.new (length a.now)
+        (upper_product tree_gates (signed_of net.old above) (signed_of net.old other_above)
+        (all_signed_of net.old a.now) (all_signed_of net.old b.now)) r.items) }
     ensures keeps { Extends net.old net.new }
 {
     let _net = net.len();

@@ -1,10 +1,11 @@
 //! Shifts by stages.
 
-ghost use Rattle.std.specs.Prelude.{◌≡◌, ◌<◌, ◌≤◌, length, IfOk};
+ghost use Rattle.std.specs.Prelude.{◌<◌, ◌≤◌, length, IfOk};
 ghost use Rattle.gate_model.specs.Makers.{tree_gates};
 ghost use Rattle.gate_net.specs.Trees.{signed_of, all_signed_of, Extends};
 ghost use Rattle.word_bits.specs.Circuits.{choose, up, down, shift_left, shift_right};
 ghost use Rattle.gate_net.specs.Lits.{AreNamed};
+ghost use Rattle.word_gates.specs.Lits.{AreWord};
 
 use crate::bitwise::{BitGate, each};
 use crate::moves::{down, up};
@@ -22,10 +23,8 @@ fn stage_up(
 ) -> Result<Vec<Lit>, NoMemory>
     requires choice { choice.name < length net.old }
     requires word { AreNamed (length net.old) a.now }
-    ensures below { IfOk result (λ r. AreNamed (length net.new) r.items) }
-    ensures trees { IfOk result (λ r. all_signed_of net.new r.items ≡
-        choose tree_gates (signed_of net.old choice) (up tree_gates distance (all_signed_of net.old a.now)) (all_signed_of net.old a.now)) }
-    ensures width { IfOk result (λ r. length r.items ≡ length a.now) }
+    ensures word { IfOk result (λ r. AreWord net.new (length a.now)
+        (choose tree_gates (signed_of net.old choice) (up tree_gates distance (all_signed_of net.old a.now)) (all_signed_of net.old a.now)) r.items) }
     ensures keeps { Extends net.old net.new }
 {
     let _net = net.len();
@@ -45,10 +44,8 @@ pub(crate) fn shift_left(
     requires first { AreNamed (length net.old) a.now }
     requires second { AreNamed (length net.old) b.now }
     requires width { 5 ≤ length b.now }
-    ensures below { IfOk result (λ r. AreNamed (length net.new) r.items) }
-    ensures trees { IfOk result (λ r. all_signed_of net.new r.items
-        ≡ shift_left tree_gates (all_signed_of net.old a.now) (all_signed_of net.old b.now)) }
-    ensures width { IfOk result (λ r. length r.items ≡ length a.now) }
+    ensures word { IfOk result (λ r. AreWord net.new (length a.now)
+        (shift_left tree_gates (all_signed_of net.old a.now) (all_signed_of net.old b.now)) r.items) }
     ensures keeps { Extends net.old net.new }
 {
     let by_1 = stage_up(alloc, net, b[0], 1, a)?;
@@ -71,11 +68,9 @@ fn stage_down(
     requires fill { fill.name < length net.old }
     requires choice { choice.name < length net.old }
     requires word { AreNamed (length net.old) a.now }
-    ensures below { IfOk result (λ r. AreNamed (length net.new) r.items) }
-    ensures trees { IfOk result (λ r. all_signed_of net.new r.items ≡
-        choose tree_gates (signed_of net.old choice)
-        (down tree_gates (signed_of net.old fill) distance (all_signed_of net.old a.now)) (all_signed_of net.old a.now)) }
-    ensures width { IfOk result (λ r. length r.items ≡ length a.now) }
+    ensures word { IfOk result (λ r. AreWord net.new (length a.now)
+        (choose tree_gates (signed_of net.old choice)
+        (down tree_gates (signed_of net.old fill) distance (all_signed_of net.old a.now)) (all_signed_of net.old a.now)) r.items) }
     ensures keeps { Extends net.old net.new }
 {
     let _net = net.len();
@@ -97,10 +92,8 @@ pub(crate) fn shift_right(
     requires first { AreNamed (length net.old) a.now }
     requires second { AreNamed (length net.old) b.now }
     requires width { 5 ≤ length b.now }
-    ensures below { IfOk result (λ r. AreNamed (length net.new) r.items) }
-    ensures trees { IfOk result (λ r. all_signed_of net.new r.items
-        ≡ shift_right tree_gates (signed_of net.old fill) (all_signed_of net.old a.now) (all_signed_of net.old b.now)) }
-    ensures width { IfOk result (λ r. length r.items ≡ length a.now) }
+    ensures word { IfOk result (λ r. AreWord net.new (length a.now)
+        (shift_right tree_gates (signed_of net.old fill) (all_signed_of net.old a.now) (all_signed_of net.old b.now)) r.items) }
     ensures keeps { Extends net.old net.new }
 {
     let by_1 = stage_down(alloc, net, fill, b[0], 1, a)?;

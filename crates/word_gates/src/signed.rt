@@ -1,10 +1,11 @@
 //! Signed words: negation, magnitude, signed division.
 
-ghost use Rattle.std.specs.Prelude.{◌≡◌, ℕ, ◌<◌, ◌≤◌, ◌+◌, length, IfOk};
+ghost use Rattle.std.specs.Prelude.{◌≡◌, ◌<◌, length, IfOk};
 ghost use Rattle.gate_model.specs.Makers.{tree_gates, xor_gate};
 ghost use Rattle.gate_net.specs.Trees.{signed_of, all_signed_of, Extends};
 ghost use Rattle.word_bits.specs.Circuits.{nos, sign, equal, negate, signed_by, magnitude, quotient, quotient_signed, remainder, remainder_signed};
 ghost use Rattle.gate_net.specs.Lits.{AreNamed};
+ghost use Rattle.word_gates.specs.Lits.{AreWord, IsBit};
 
 use crate::bitwise::{BitGate, each};
 use crate::comparisons::{difference, equal, sign};
@@ -14,12 +15,10 @@ use no_memory::NoMemory;
 use std::alloc::Global;
 
 /// The word's negative.
-#[tactic(auto, using(crate::proofs::SignedLemmas::negate_trees))]
 fn negate(alloc: Global, net: &mut Net, a: &[Lit]) -> Result<Vec<Lit>, NoMemory>
     requires word { AreNamed (length net.old) a.now }
-    ensures below { IfOk result (λ r. AreNamed (length net.new) r.items) }
-    ensures trees { IfOk result (λ r. all_signed_of net.new r.items ≡ negate tree_gates (all_signed_of net.old a.now)) }
-    ensures width { IfOk result (λ r. length r.items ≡ length a.now) }
+    ensures word { IfOk result (λ r. AreWord net.new (length a.now)
+        (negate tree_gates (all_signed_of net.old a.now)) r.items) }
     ensures keeps { Extends net.old net.new }
 {
     let _net = net.len();
@@ -29,13 +28,12 @@ fn negate(alloc: Global, net: &mut Net, a: &[Lit]) -> Result<Vec<Lit>, NoMemory>
 }
 
 /// The word, negated where `turned` is yes.
-#[tactic(auto, using(crate::proofs::NetLemmas::turns, crate::proofs::NetLemmas::kept_all, crate::proofs::NetLemmas::kept))]
+#[tactic(auto, using(crate::proofs::NetLemmas::turns))]
 fn signed_by(alloc: Global, net: &mut Net, turned: Lit, a: &[Lit]) -> Result<Vec<Lit>, NoMemory>
     requires turned { turned.name < length net.old }
     requires word { AreNamed (length net.old) a.now }
-    ensures below { IfOk result (λ r. AreNamed (length net.new) r.items) }
-    ensures trees { IfOk result (λ r. all_signed_of net.new r.items ≡ signed_by tree_gates (signed_of net.old turned) (all_signed_of net.old a.now)) }
-    ensures width { IfOk result (λ r. length r.items ≡ length a.now) }
+    ensures word { IfOk result (λ r. AreWord net.new (length a.now)
+        (signed_by tree_gates (signed_of net.old turned) (all_signed_of net.old a.now)) r.items) }
     ensures keeps { Extends net.old net.new }
 {
     let negative = negate(alloc, net, a)?;
@@ -47,9 +45,8 @@ fn signed_by(alloc: Global, net: &mut Net, turned: Lit, a: &[Lit]) -> Result<Vec
 fn magnitude(alloc: Global, net: &mut Net, a: &[Lit]) -> Result<Vec<Lit>, NoMemory>
     requires some { 0 < length a.now }
     requires word { AreNamed (length net.old) a.now }
-    ensures below { IfOk result (λ r. AreNamed (length net.new) r.items) }
-    ensures trees { IfOk result (λ r. all_signed_of net.new r.items ≡ magnitude tree_gates (all_signed_of net.old a.now)) }
-    ensures width { IfOk result (λ r. length r.items ≡ length a.now) }
+    ensures word { IfOk result (λ r. AreWord net.new (length a.now)
+        (magnitude tree_gates (all_signed_of net.old a.now)) r.items) }
     ensures keeps { Extends net.old net.new }
 {
     let turned = sign(a);
@@ -66,10 +63,8 @@ pub(crate) fn remainder(
 ) -> Result<Vec<Lit>, NoMemory>
     requires first { AreNamed (length net.old) a.now }
     requires second { AreNamed (length net.old) b.now }
-    ensures below { IfOk result (λ r. AreNamed (length net.new) r.items) }
-    ensures trees { IfOk result (λ r. all_signed_of net.new r.items
-        ≡ remainder tree_gates (all_signed_of net.old a.now) (all_signed_of net.old b.now)) }
-    ensures width { IfOk result (λ r. length r.items ≡ length b.now) }
+    ensures word { IfOk result (λ r. AreWord net.new (length b.now)
+        (remainder tree_gates (all_signed_of net.old a.now) (all_signed_of net.old b.now)) r.items) }
     ensures keeps { Extends net.old net.new }
 {
     let division = divide(alloc, net, a, b)?;
@@ -86,7 +81,7 @@ struct Magnitudes {
 }
 
 /// Both words without their signs.
-#[tactic(auto, using(crate::proofs::NetLemmas::turns, crate::proofs::NetLemmas::kept_all))]
+#[tactic(auto, using(crate::proofs::NetLemmas::turns))]
 fn both_magnitudes(
     alloc: Global,
     net: &mut Net,
@@ -97,12 +92,10 @@ fn both_magnitudes(
     requires width { length a.now ≡ length b.now }
     requires first { AreNamed (length net.old) a.now }
     requires second { AreNamed (length net.old) b.now }
-    ensures first_below { IfOk result (λ m. AreNamed (length net.new) m.first.items) }
-    ensures second_below { IfOk result (λ m. AreNamed (length net.new) m.second.items) }
-    ensures first { IfOk result (λ m. all_signed_of net.new m.first.items ≡ magnitude tree_gates (all_signed_of net.old a.now)) }
-    ensures second { IfOk result (λ m. all_signed_of net.new m.second.items ≡ magnitude tree_gates (all_signed_of net.old b.now)) }
-    ensures first_width { IfOk result (λ m. length m.first.items ≡ length a.now) }
-    ensures second_width { IfOk result (λ m. length m.second.items ≡ length b.now) }
+    ensures first { IfOk result (λ m. AreWord net.new (length a.now)
+        (magnitude tree_gates (all_signed_of net.old a.now)) m.first.items) }
+    ensures second { IfOk result (λ m. AreWord net.new (length b.now)
+        (magnitude tree_gates (all_signed_of net.old b.now)) m.second.items) }
     ensures keeps { Extends net.old net.new }
 {
     let first = magnitude(alloc, net, a)?;
@@ -122,10 +115,8 @@ fn quotient_of_magnitudes(
     requires width { length a.now ≡ length b.now }
     requires first { AreNamed (length net.old) a.now }
     requires second { AreNamed (length net.old) b.now }
-    ensures below { IfOk result (λ r. AreNamed (length net.new) r.items) }
-    ensures trees { IfOk result (λ r. all_signed_of net.new r.items ≡
-        quotient tree_gates (magnitude tree_gates (all_signed_of net.old a.now)) (magnitude tree_gates (all_signed_of net.old b.now))) }
-    ensures width { IfOk result (λ r. length r.items ≡ length a.now) }
+    ensures word { IfOk result (λ r. AreWord net.new (length a.now)
+        (quotient tree_gates (magnitude tree_gates (all_signed_of net.old a.now)) (magnitude tree_gates (all_signed_of net.old b.now))) r.items) }
     ensures keeps { Extends net.old net.new }
 {
     let words = both_magnitudes(alloc, net, a, b)?;
@@ -145,10 +136,8 @@ fn remainder_of_magnitudes(
     requires width { length a.now ≡ length b.now }
     requires first { AreNamed (length net.old) a.now }
     requires second { AreNamed (length net.old) b.now }
-    ensures below { IfOk result (λ r. AreNamed (length net.new) r.items) }
-    ensures trees { IfOk result (λ r. all_signed_of net.new r.items ≡
-        remainder tree_gates (magnitude tree_gates (all_signed_of net.old a.now)) (magnitude tree_gates (all_signed_of net.old b.now))) }
-    ensures width { IfOk result (λ r. length r.items ≡ length b.now) }
+    ensures word { IfOk result (λ r. AreWord net.new (length b.now)
+        (remainder tree_gates (magnitude tree_gates (all_signed_of net.old a.now)) (magnitude tree_gates (all_signed_of net.old b.now))) r.items) }
     ensures keeps { Extends net.old net.new }
 {
     let words = both_magnitudes(alloc, net, a, b)?;
@@ -168,10 +157,8 @@ pub(crate) fn remainder_signed(
     requires width { length a.now ≡ length b.now }
     requires first { AreNamed (length net.old) a.now }
     requires second { AreNamed (length net.old) b.now }
-    ensures below { IfOk result (λ r. AreNamed (length net.new) r.items) }
-    ensures trees { IfOk result (λ r. all_signed_of net.new r.items
-        ≡ remainder_signed tree_gates (all_signed_of net.old a.now) (all_signed_of net.old b.now)) }
-    ensures width { IfOk result (λ r. length r.items ≡ length b.now) }
+    ensures word { IfOk result (λ r. AreWord net.new (length b.now)
+        (remainder_signed tree_gates (all_signed_of net.old a.now) (all_signed_of net.old b.now)) r.items) }
     ensures keeps { Extends net.old net.new }
 {
     let turned = sign(a);
@@ -192,11 +179,9 @@ fn quotient_by_signs(
     requires width { length a.now ≡ length b.now }
     requires first { AreNamed (length net.old) a.now }
     requires second { AreNamed (length net.old) b.now }
-    ensures below { IfOk result (λ r. AreNamed (length net.new) r.items) }
-    ensures trees { IfOk result (λ r. all_signed_of net.new r.items ≡
-        signed_by tree_gates (xor_gate (sign tree_gates (all_signed_of net.old a.now)) (sign tree_gates (all_signed_of net.old b.now)))
-        (quotient tree_gates (magnitude tree_gates (all_signed_of net.old a.now)) (magnitude tree_gates (all_signed_of net.old b.now)))) }
-    ensures width { IfOk result (λ r. length r.items ≡ length a.now) }
+    ensures word { IfOk result (λ r. AreWord net.new (length a.now)
+        (signed_by tree_gates (xor_gate (sign tree_gates (all_signed_of net.old a.now)) (sign tree_gates (all_signed_of net.old b.now)))
+        (quotient tree_gates (magnitude tree_gates (all_signed_of net.old a.now)) (magnitude tree_gates (all_signed_of net.old b.now)))) r.items) }
     ensures keeps { Extends net.old net.new }
 {
     let first = sign(a);
@@ -210,9 +195,8 @@ fn quotient_by_signs(
 /// Whether the word is 0.
 fn is_zero(alloc: Global, net: &mut Net, b: &[Lit]) -> Result<Lit, NoMemory>
     requires word { AreNamed (length net.old) b.now }
-    ensures below { IfOk result (λ l. l.name < length net.new) }
-    ensures tree { IfOk result (λ l. signed_of net.new l
-        ≡ equal tree_gates (all_signed_of net.old b.now) (nos tree_gates (length (all_signed_of net.old b.now)))) }
+    ensures zero { IfOk result (λ l. IsBit net.new
+        (equal tree_gates (all_signed_of net.old b.now) (nos tree_gates (length (all_signed_of net.old b.now)))) l) }
     ensures keeps { Extends net.old net.new }
 {
     let _net = net.len();
@@ -233,10 +217,8 @@ pub(crate) fn quotient_signed(
     requires width { length a.now ≡ length b.now }
     requires first { AreNamed (length net.old) a.now }
     requires second { AreNamed (length net.old) b.now }
-    ensures below { IfOk result (λ r. AreNamed (length net.new) r.items) }
-    ensures trees { IfOk result (λ r. all_signed_of net.new r.items
-        ≡ quotient_signed tree_gates (all_signed_of net.old a.now) (all_signed_of net.old b.now)) }
-    ensures width { IfOk result (λ r. length r.items ≡ length a.now) }
+    ensures word { IfOk result (λ r. AreWord net.new (length a.now)
+        (quotient_signed tree_gates (all_signed_of net.old a.now) (all_signed_of net.old b.now)) r.items) }
     ensures keeps { Extends net.old net.new }
 {
     let quotient = quotient_by_signs(alloc, net, a, b)?;

@@ -1,4 +1,4 @@
-use Rattle.std.proofs.Common.{◌≡◌, ℕ, ◌+◌, ◌-◌, ◌<◌, [], ◌∷◌, ◌++◌, length, rules, arith}
+use Rattle.std.proofs.Common.{◌≡◌, ◌∙◌, ap, length-append, ℕ, ◌+◌, ◌-◌, ◌<◌, [], ◌∷◌, ◌++◌, length, rules, arith}
 use Rattle.std.specs.Prelude.{replicate}
 use Rattle.gate_net.specs.Lits.{AreNamed}
 use Rattle.word_gates.proofs.NetLemmas.{lit_at, below_at, still}
@@ -27,17 +27,19 @@ loop-done-preserved c =
     let ins : c.insert.new.self.items ≡ c.in_ok-made.made.fits ∷ c.loop-done.quotient.items = search rules in
     let e = simp c.deref.ensures.value at c.in_ok-shifted.ensures.trees in
     let w = rw c.deref.ensures.value at c.in_ok-shifted.ensures.width in
-    let width = rw c.deref-in-loop-done-2.ensures.value at c.in_ok-made.ensures.width in
-    let f = rw (c.deref-in-loop-done.ensures.value, c.deref-in-loop-done-2.ensures.value) at c.in_ok-made.ensures.fits in
-    let g = rw (c.deref-in-loop-done.ensures.value, c.deref-in-loop-done-2.ensures.value) at c.in_ok-made.ensures.left in
-    rw ins (dividing_more _ _ _ _ _ _ _ _ _ _ _ i _ c.loop-done.invariant c.requires.first c.requires.second at c.in_ok-made.ensures.keeps e w c.in_ok-made.ensures.fits_below c.in_ok-made.ensures.left_below width f g)
+    let width = rw c.deref-in-loop-done-2.ensures.value at c.in_ok-made.ensures.left.width in
+    let f = rw (c.deref-in-loop-done.ensures.value, c.deref-in-loop-done-2.ensures.value) at c.in_ok-made.ensures.fits.tree in
+    let g = rw (c.deref-in-loop-done.ensures.value, c.deref-in-loop-done-2.ensures.value) at c.in_ok-made.ensures.left.trees in
+    rw ins (dividing_more _ _ _ _ _ _ _ _ _ _ _ i _ c.loop-done.invariant c.requires.first c.requires.second at c.in_ok-made.ensures.keeps e w c.in_ok-made.ensures.fits.below c.in_ok-made.ensures.left.below width f g)
 
 pub returns-clause-quotient : goal.returns-clause-quotient
 returns-clause-quotient c =
     let all : 0 + c.loop-done.done ≡ length c.args.a.now = omega arith in
-    c.loop-done.invariant.quotient_is 0 all
+    let so = c.loop-done.invariant in
+    record { below = so.quotient_below; trees = so.quotient_is 0 all; width = omega (arith, so.quotient_width, all) }
 
 pub returns-clause-left : goal.returns-clause-left
 returns-clause-left c =
     let all : 0 + c.loop-done.done ≡ length c.args.a.now = omega arith in
-    c.loop-done.invariant.left_is 0 all
+    let so = c.loop-done.invariant in
+    record { below = so.left_below; trees = so.left_is 0 all; width = so.left_width ∙ ap length so.divisor_is ∙ length-append c.args.b.now (no_lit ∷ []) }

@@ -12,5 +12,5 @@ loop-i-init c =
 pub loop-i-preserved : goal.loop-i-preserved
 loop-i-preserved c =
     let made = c.in_ok-so_far-2.ensures in
-    let e = rw c.deref.ensures.value at made.trees in
-    product_more _ _ _ _ _ _ _ _ c.loop-i.invariant c.requires.first c.requires.second c.loop-i-test.true made.keeps made.below made.width e
+    let e = rw c.deref.ensures.value at made.word.trees in
+    product_more _ _ _ _ _ _ _ _ c.loop-i.invariant c.requires.first c.requires.second c.loop-i-test.true made.keeps made.word.below made.word.width e
