@@ -13,7 +13,7 @@ use Rattle.term_model.specs.Conditions.{Hold}
 use Rattle.term_arena.specs.Trees.{tree_of, trees_of, IsTermOf}
 use Rattle.group_model.specs.Conditions.{IsCondition}
 use Rattle.group_model.specs.Group.{HasAt, IsAscending, IsGroup}
-use Rattle.narrow_solve.specs.Eight.{IsEight}
+use Rattle.group_tests.specs.Eight.{IsEight}
 
 pub eight_first : IsEight (Input 0)
 eight_first = record { only = λ i. refl; value = refl }

@@ -27,23 +27,3 @@ pub fn check_model(arena: &Arena, conditions: &[Term], input: &[u8], scratch: &m
     }
     true
 }
-
-#[cfg(test)]
-mod tests {
-    use super::*;
-    use std::test::Fail;
-    use term_arena::Op;
-
-    #[test]
-    fn every_condition_counts(rt: HostRuntime) -> Result<(), Fail> {
-        let mut arena = Arena::new(rt.alloc())?;
-        let first = arena.input(0)?;
-        let second = arena.input(1)?;
-        let same = arena.intern(Op::Eq, first, second)?;
-        let mut scratch = Scratch::for_arena(rt.alloc(), &arena)?;
-        assert!(rt; check_model(&arena, &[same], &[5, 5], &mut scratch));
-        assert!(rt; !check_model(&arena, &[same], &[5, 6], &mut scratch));
-        assert!(rt; check_model(&arena, &[], &[], &mut scratch));
-        Ok(())
-    }
-}

@@ -2,4 +2,3 @@ pub mod TriedLemmas
 pub mod ValueLemmas
 pub mod GroupLemmas
 pub mod LaneLemmas
-pub mod TestLemmas

@@ -2,4 +2,3 @@ pub mod Narrow
 pub mod Tried
 pub mod Lanes
 pub mod Table
-pub mod Eight

@@ -137,6 +137,3 @@ pub fn narrow_sets(
         scratch,
     )
 }
-
-#[cfg(test)]
-mod tests;

@@ -16,9 +16,6 @@ ghost use Rattle.term_model.specs.Truth.{is_truth};
 ghost use Rattle.term_model.specs.Same.{same_tree};
 ghost use Rattle.term_model.specs.Order.{variant_place, alu_place};
 
-#[cfg(test)]
-mod tests;
-
 use rv_word::{AluOp, alu, byte_of};
 use std::cmp::Ordering;
 

@@ -2,6 +2,7 @@
 
 ghost use Rattle.std.specs.Prelude.{◌≤◌, ◌<◌, length, IfOk};
 
+use crate::normal::named;
 use rv_word::AluOp;
 use std::alloc::{AllocError, Global};
 use std::test::Fail;
@@ -93,36 +94,46 @@ fn trees_made_in_another_order_are_one_term(rt: HostRuntime) -> Result<(), Fail>
     Ok(())
 }
 
-fn zero_bytes_of(arena: &mut Arena, op: Op, a: Term, b: Term) -> Result<u8, AllocError>
-    requires first { a < length arena.old }
-    requires second { b < length arena.old }
-    ensures grows { length arena.old ≤ length arena.new }
-{
-    let t = arena.intern(op, a, b)?;
-    Ok(arena.zero_bytes(t))
-}
+/// Terms in postfix order, as those of normal forms, and which of the bytes of each are zero, the lowest byte the lowest bit.
+const ZERO_BYTES: &str = "\
+ff00 = d
+ff00 i0 pair = d
+i0 ff00 half = 6
+i0 ff00 or = c
+i0 ff00 and = f
+i0 8 sll = d
+ff00 8 srl = e
+i0 i0 sll = 0
+";
 
-/// The zero bytes of some terms.
-fn masks(arena: &mut Arena) -> Result<[u8; 8], AllocError> {
-    let first = byte(arena, 0)?;
-    let eight = word(arena, 8)?;
-    let second_byte = word(arena, 0xff00)?;
-    Ok([
-        arena.zero_bytes(second_byte),
-        zero_bytes_of(arena, Op::Pair, second_byte, first)?,
-        zero_bytes_of(arena, Op::Half, first, second_byte)?,
-        zero_bytes_of(arena, Op::Alu(AluOp::Or), first, second_byte)?,
-        zero_bytes_of(arena, Op::Alu(AluOp::And), first, second_byte)?,
-        zero_bytes_of(arena, Op::Alu(AluOp::Sll), first, eight)?,
-        zero_bytes_of(arena, Op::Alu(AluOp::Srl), second_byte, eight)?,
-        zero_bytes_of(arena, Op::Alu(AluOp::Sll), first, first)?,
-    ])
+/// Whether a term has these zero bytes.
+fn has_zero_bytes(
+    alloc: Global,
+    arena: &mut Arena,
+    term: &str,
+    mask: &str,
+) -> Result<bool, AllocError> {
+    match named(alloc, arena, term, false)? {
+        Some(t) => Ok(u8::from_str_radix(mask.trim(), 16) == Ok(arena.zero_bytes(t))),
+        None => Ok(false),
+    }
 }
 
 #[test]
 fn zero_bytes_are_those_of_the_table(rt: HostRuntime) -> Result<(), Fail> {
-    let masks = masks(&mut Arena::new(rt.alloc())?)?;
-    assert_eq!(rt; masks, [13, 13, 6, 12, 15, 13, 14, 0]);
+    let mut arena = Arena::new(rt.alloc())?;
+    let mut cases = 0u64;
+    for line in ZERO_BYTES.lines() {
+        let Some((term, mask)) = line.split_once('=') else {
+            continue;
+        };
+        assert!(rt;
+            has_zero_bytes(rt.alloc(), &mut arena, term, mask)?,
+            "{line}"
+        );
+        cases = cases.wrapping_add(1);
+    }
+    assert!(rt; cases == 8);
     Ok(())
 }
 
@@ -223,4 +234,32 @@ fn many_terms_are_found_again(rt: HostRuntime) -> Result<(), Fail> {
     let found = many_terms(rt.alloc(), &mut arena)?;
     assert!(rt; made == found && arena.len() == 30_000);
     Ok(())
+}
+
+/// Operations on two words, and the value that each has.
+const VALUES: [(Op, u32, u32, u32); 12] = [
+    (
+        Op::Alu(AluOp::Mulhsu),
+        0xffff_ffff,
+        0xffff_ffff,
+        0xffff_ffff,
+    ),
+    (Op::Alu(AluOp::Div), 0x8000_0000, 0xffff_ffff, 0x8000_0000),
+    (Op::Alu(AluOp::Rem), 0x8000_0000, 0xffff_ffff, 0),
+    (Op::Alu(AluOp::Div), 0x64, 0, 0xffff_ffff),
+    (Op::Alu(AluOp::Divu), 0x64, 0, 0xffff_ffff),
+    (Op::Eq, 7, 7, 1),
+    (Op::Eq, 7, 8, 0),
+    (Op::Byte, 0x0403_0201, 0, 1),
+    (Op::Byte, 0x0403_0201, 6, 3),
+    (Op::Byte, 0x0403_0201, 0xffff_ffff, 4),
+    (Op::Pair, 0x1ff, 0x2ee, 0xeeff),
+    (Op::Half, 0x1_2222, 0x3_4444, 0x4444_2222),
+];
+
+#[test]
+fn operations_have_their_values(rt: HostRuntime) {
+    for (op, a, b, value) in VALUES {
+        assert!(rt; op.value(a, b) == value, "{a:x} and {b:x}");
+    }
 }

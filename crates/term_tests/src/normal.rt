@@ -61,6 +61,7 @@ i0 i1 mul 5 xor 3 eq = i0 i1 mul 6 eq
 i0 i1 mul 5 xor 5 eq = i0 i1 mul 0 eq
 i0 i1 mul 5 add 3 eq = i0 i1 mul fffffffe eq
 i0 i1 mul 5 add 7 eq = i0 i1 mul 2 eq
+i0 5 add 5 eq = i0 0 eq
 i0 i1 mul i2 xor 0 eq = i0 i1 mul i2 eq
 i0 i1 mul i2 sub 0 eq = i0 i1 mul i2 eq
 i0 i1 eq 1 eq = i0 i1 eq
@@ -78,6 +79,7 @@ i0 i1 mul 1 sltu = i0 i1 mul 0 eq
 i0 1 sltu = i0 0 eq
 0 i0 i1 mul sltu = i0 i1 mul 0 eq 0 eq
 0 i0 i1 eq sltu = i0 i1 eq
+0 i3 sltu = i3 0 eq 0 eq
 i0 100 sltu = 1
 i0 ffffffff sltu = 1
 i0 ff sltu = i0 ff sltu
@@ -221,12 +223,14 @@ fn word_term(
 }
 
 /// The term that a text in postfix order names, each operation in it in normal form or as it is.
-fn named(
+pub(crate) fn named(
     alloc: Global,
     arena: &mut Arena,
     text: &str,
     is_normal: bool,
-) -> Result<Option<Term>, AllocError> {
+) -> Result<Option<Term>, AllocError>
+    ensures { IfOk result (λ made. IfSome made (IsOperand is_normal arena.new)) }
+{
     let mut stack: Vec<Term> = Vec::new(alloc);
     for word in text.split_whitespace() {
         let Some(term) = word_term(arena, &mut stack, word, is_normal)? else {
@@ -250,53 +254,6 @@ fn each_rule_gives_the_normal_form(rt: HostRuntime) -> Result<(), Fail> {
         assert!(rt; made.is_some() && made == wanted, "{line}");
         cases = cases.wrapping_add(1);
     }
-    assert_eq!(rt; cases, 92);
-    Ok(())
-}
-
-/// The normal form of an operation on a term and a constant.
-fn with_constant(arena: &mut Arena, op: Op, a: Term, c: u32) -> Result<Term, AllocError>
-    requires belongs { a < length arena.old }
-    requires normal { IsNormal (tree_of arena.old a) }
-    requires byte_number { TakesByteNumber op (Const c) }
-    ensures below { IfOk result (λ t. t < length arena.new) }
-    ensures normal { IfOk result (λ t. IsNormal (tree_of arena.new t)) }
-    ensures grows { length arena.old ≤ length arena.new }
-{
-    let b = arena.constant(c)?;
-    make(arena, op, a, b)
-}
-
-/// The normal form of an operation on a constant and a term.
-fn of_constant(arena: &mut Arena, op: Op, c: u32, b: Term) -> Result<Term, AllocError>
-    requires belongs { b < length arena.old }
-    requires normal { IsNormal (tree_of arena.old b) }
-    requires byte_number { TakesByteNumber op (tree_of arena.old b) }
-    ensures below { IfOk result (λ t. t < length arena.new) }
-    ensures grows { length arena.old ≤ length arena.new }
-{
-    let a = arena.constant(c)?;
-    make(arena, op, a, b)
-}
-
-#[test]
-fn make_gives_normal_forms(rt: HostRuntime) -> Result<(), Fail> {
-    let mut arena = Arena::new(rt.alloc())?;
-    let byte = arena.input(0)?;
-    let sum = with_constant(&mut arena, Op::Alu(AluOp::Add), byte, 5)?;
-    let made = with_constant(&mut arena, Op::Eq, sum, 5)?;
-    let zero = arena.constant(0)?;
-    assert_eq!(rt; made, arena.intern(Op::Eq, byte, zero)?);
-    let byte = arena.input(0)?;
-    let masked = with_constant(&mut arena, Op::Alu(AluOp::And), byte, 0xff)?;
-    assert_eq!(rt; masked, byte);
-    let byte = arena.input(0)?;
-    let is_less = with_constant(&mut arena, Op::Alu(AluOp::Sltu), byte, 0x100)?;
-    assert_eq!(rt; is_less, arena.constant(1)?);
-    let byte = arena.input(3)?;
-    let is_more = of_constant(&mut arena, Op::Alu(AluOp::Sltu), 0, byte)?;
-    let zero = arena.constant(0)?;
-    let is_zero = arena.intern(Op::Eq, byte, zero)?;
-    assert_eq!(rt; is_more, arena.intern(Op::Eq, is_zero, zero)?);
+    assert!(rt; cases == 94);
     Ok(())
 }

@@ -1,5 +1,5 @@
-use Rattle.narrow_solve.proofs.TestLemmas.{eight_possible, eight_meets}
-use Rattle.narrow_solve.proofs.tests.has_ten_values.Goals as goal
+use Rattle.group_tests.proofs.EightLemmas.{eight_possible, eight_meets}
+use Rattle.group_tests.proofs.narrow.has_ten_values.Goals as goal
 
 pub first_narrow-first-requires-clause-possible : goal.first_narrow-first-requires-clause-possible
 first_narrow-first-requires-clause-possible c = eight_possible _ c.in_ok-group.ensures.possible

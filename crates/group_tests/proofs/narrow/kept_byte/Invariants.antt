@@ -1,8 +1,8 @@
 use Rattle.std.specs.Prelude.{◌≡◌, ◌<◌, length}
 use Rattle.term_model.specs.Tree.{Input}
 use Rattle.term_arena.specs.Trees.{tree_of, IsTermOf}
-use Rattle.narrow_solve.specs.Eight.{IsEight}
-use Rattle.narrow_solve.proofs.tests.kept_byte.Given as goal
+use Rattle.group_tests.specs.Eight.{IsEight}
+use Rattle.group_tests.proofs.narrow.kept_byte.Given as goal
 
 abbrev pub invariant-loop : goal.invariant-loop
 invariant-loop l = record {
