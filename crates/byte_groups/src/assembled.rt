@@ -1,6 +1,6 @@
 //! Groups made of their places and their conditions.
 
-ghost use Rattle.std.specs.Prelude.{◌≡◌, ◌<◌, ◌≤◌, ◌^◌, ℕ, None, length, map, Contains, IfOk};
+ghost use Rattle.std.specs.Prelude.{◌≡◌, ◌≤◌, ◌^◌, ℕ, None, length, map, Contains, IfOk};
 ghost use Rattle.std.specs.List.{zip};
 ghost use Rattle.byte_groups.specs.Labels.{AreParents};
 ghost use Rattle.byte_groups.specs.Joined.{IsLeafBelow};

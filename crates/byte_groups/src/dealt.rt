@@ -1,8 +1,6 @@
 //! Conditions dealt into lists.
 
 ghost use Rattle.std.specs.Prelude.{◌≡◌, ◌<◌, ℕ, List, Option, Some, [], length, slice_index, Contains, IfSome, IfOk, OnOk, ◌++◌, ◌∷◌};
-ghost use Rattle.std.specs.Ordering.{nat_cmp};
-ghost use Rattle.std.specs.BTreeMap.{get};
 ghost use Rattle.byte_groups.specs.Joined.{IsLeafBelow};
 ghost use Rattle.byte_groups.specs.Gathered.{number_at, lists_of};
 ghost use Rattle.byte_groups.specs.Dealt.{number_of, AreDealt};

@@ -1,7 +1,7 @@
 //! Places gathered by their labels.
 
-ghost use Rattle.std.specs.Prelude.{◌≡◌, ◌<◌, ◌⊎◌, ◌↔◌, ℕ, List, Bool, true, false, Option, length, map, slice_index};
-ghost use Rattle.std.specs.Prelude.{slice_index_or, Contains, IfOk, OnOk, Some, None, ◌+◌, ◌≤◌, ◌^◌};
+ghost use Rattle.std.specs.Prelude.{◌≡◌, ◌<◌, ◌⊎◌, ◌↔◌, ℕ, List, Bool, true, false, length, slice_index};
+ghost use Rattle.std.specs.Prelude.{Contains, IfOk, OnOk, Some, None, ◌+◌, ◌≤◌, ◌^◌};
 ghost use Rattle.term_arena.specs.Trees.{tree_of};
 ghost use Rattle.term_model.specs.Places.{reads};
 ghost use Rattle.byte_groups.specs.Labels.{AreParents};

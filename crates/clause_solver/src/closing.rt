@@ -1,9 +1,9 @@
 //! What the search asks of a closer.
 
-ghost use Rattle.std.specs.Prelude.{◌≡◌, ◌<◌, List, Bool, true, false, length, map, IfOk};
+ghost use Rattle.std.specs.Prelude.{◌≡◌, ◌<◌, List, false, map, IfOk};
 ghost use Rattle.gate_net.specs.declared.literals.Lit.{Lit};
 ghost use Rattle.gate_net.specs.Lits.{AreNamed};
-ghost use Rattle.unit_close.specs.Closing.{Closing, clauses_of};
+ghost use Rattle.unit_close.specs.Closing.{clauses_of};
 ghost use Rattle.unit_close.specs.Values.{IsClosure};
 ghost use Rattle.search_model.specs.Literals.{named};
 ghost use Rattle.search_model.specs.Tests.{in_closure, is_conflict, is_open};

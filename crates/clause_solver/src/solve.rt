@@ -1,6 +1,6 @@
 //! The search.
 
-ghost use Rattle.std.specs.Prelude.{◌≡◌, ◌<◌, ◌≤◌, List, Bool, [], length, take, IfOk, Err};
+ghost use Rattle.std.specs.Prelude.{◌≡◌, ◌<◌, ◌≤◌, Bool, [], length, take, IfOk, Err};
 ghost use Rattle.gate_net.specs.declared.literals.Lit.{Lit};
 ghost use Rattle.gate_net.specs.Lits.{AreNamed};
 ghost use Rattle.search_model.specs.Literals.{named};

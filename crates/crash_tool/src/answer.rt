@@ -2,8 +2,8 @@
 
 ghost use Rattle.std.specs.Prelude.{◌≡◌, ◌≤◌, [], ◌∷◌, ◌++◌, length};
 ghost use Rattle.std.specs.Fmt.{decimal};
-ghost use Rattle.crash_tool.specs.declared.answer.Refusal.TheVariants.{NoMemory, NotAProgram, Spent, NotAReport, Differs};
-ghost use Rattle.crash_tool.specs.Refusals.{status_of, line_of, message_of, rule_name};
+ghost use Rattle.crash_tool.specs.declared.answer.Refusal.TheVariants.{NoMemory, NotAProgram, Spent};
+ghost use Rattle.crash_tool.specs.Refusals.{status_of, line_of};
 ghost use Rattle.crash_tool.specs.Refusals.{of_words, IsOfRule, of_make, of_read, of_receive};
 
 use arrayvec::ArrayString;

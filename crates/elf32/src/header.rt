@@ -1,7 +1,6 @@
 //! The fields of the ELF header and of program headers, all of them little-endian.
 
 ghost use Rattle.std.specs.Prelude.{◌≡◌, ◌+◌, ◌*◌, ◌≤◌, ◌<◌, length};
-ghost use Rattle.elf32.specs.declared.header.Header.{Header};
 ghost use Rattle.elf32.specs.Fields.{half_in, word_in, header_at, headers_at};
 
 use byteorder::{ByteOrder, LittleEndian};

@@ -1,10 +1,9 @@
 //! What a program has in memory when it starts.
 
-ghost use Rattle.std.specs.Prelude.{◌≡◌, ℕ, ◌≤◌, ◌%◌};
+ghost use Rattle.std.specs.Prelude.{◌≡◌, ◌≤◌, ◌%◌};
 ghost use Rattle.elf32.specs.Segments.{AreApart, AreOffStack, AreSized, total_size};
 
-use crate::bytes::Bytes;
-use crate::segments::{Segment, Segments};
+use crate::segments::Segments;
 
 /// A program: where it starts, and its segments in ascending order of base.
 ///

@@ -3,7 +3,6 @@
 ghost use Rattle.std.specs.Prelude.{◌≡◌, ◌≢◌, ◌+◌, ◌≤◌, ◌∷◌, false, length, IfOk, IfErr, Err, Some, None};
 ghost use Rattle.std.specs.List.{list_any};
 ghost use Rattle.std.specs.List.Sorted.{IsPermutation, IsNonDecreasingBy};
-ghost use Rattle.elf32.specs.declared.segments.Segment.{Segment};
 ghost use Rattle.elf32.specs.Rules.{is_outside, spans_of, memory_size, refusal};
 ghost use Rattle.elf32.specs.Spans.{stack, overlap};
 ghost use Rattle.elf32.specs.Segments.{AreApart, AreOffStack, AreSized, total_size};

@@ -1,9 +1,8 @@
 //! The rules of a file, tested in their order.
 
-ghost use Rattle.std.specs.Prelude.{◌≡◌, ◌≢◌, Err, ◌+◌, ◌*◌, ◌≤◌, ◌%◌, ◌∷◌, false, length, OnOk, IfErr, Some, None};
+ghost use Rattle.std.specs.Prelude.{◌≡◌, ◌≢◌, Err, ◌≤◌, ◌%◌, ◌∷◌, false, length, OnOk, IfErr, Some, None};
 ghost use Rattle.std.specs.List.{list_any};
 ghost use Rattle.elf32.specs.declared.error.ElfError.TheVariants.{NoMemory};
-ghost use Rattle.elf32.specs.declared.header.Header.{Header};
 ghost use Rattle.elf32.specs.Fields.{e_entry, e_phnum, headers, HasTable};
 ghost use Rattle.elf32.specs.Spans.{stack, share, overlap};
 ghost use Rattle.elf32.specs.Rules.{lacks_magic, lacks_table, has_other_instructions, refusal, is_dynamic, is_load};

@@ -1,8 +1,8 @@
 //! The fields of section headers, all of them little-endian.
 
-ghost use Rattle.std.specs.Prelude.{◌≡◌, ◌+◌, ◌*◌, ◌≤◌, ◌<◌, length, find, map, take, drop, Option, false};
-ghost use Rattle.std.specs.List.{slice_get, range_with_len};
-ghost use Rattle.elf32.specs.Symbols.{section_at, sections, lacks_sections, ends_past, has_symbols, has_strings, bytes_of};
+ghost use Rattle.std.specs.Prelude.{◌≡◌, ◌+◌, ◌≤◌, length, find, false};
+ghost use Rattle.std.specs.List.{slice_get};
+ghost use Rattle.elf32.specs.Symbols.{section_at, sections, lacks_sections, ends_past, has_symbols, bytes_of};
 ghost use Rattle.elf32.specs.Symbols.{table_in, strings_for};
 
 use crate::header::{half_in, word_in};

@@ -1,7 +1,6 @@
 //! Ranges of addresses.
 
 ghost use Rattle.std.specs.Prelude.{◌≡◌, ◌+◌};
-ghost use Rattle.elf32.specs.declared.span.Span.{Span};
 ghost use Rattle.elf32.specs.Spans.{stack, share};
 
 /// The addresses from `base` up to but not including `base + size`.

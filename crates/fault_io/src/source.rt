@@ -1,6 +1,6 @@
 //! Reading a file that was opened: over any reader, within a limit, with its reads and failures counted.
 
-ghost use Rattle.std.specs.Prelude.{◌≡◌, ◌≢◌, ◌+◌, ◌<◌, ◌≤◌, None, Some, length, take, IfOk, IfSome, OnSome, IsErr, IsNone};
+ghost use Rattle.std.specs.Prelude.{◌≡◌, ◌≢◌, ◌+◌, ◌<◌, ◌≤◌, Some, length, take, IfOk, IfSome, OnSome, IsErr, IsNone};
 ghost use Rattle.std.specs.Io.KnownBytes.{Consumes, IsAtEnd};
 ghost use Rattle.fault_io.specs.Faults.{raised};
 ghost use Rattle.fault_io.specs.Files.{answer_for, IsWithin};

@@ -1,6 +1,6 @@
 //! The net: gates by name, each tree once.
 
-ghost use Rattle.std.specs.Prelude.{◌≡◌, ◌≤◌, ◌<◌, ◌+◌, ◌⊎◌, ℕ, [], ◌∷◌, length, IfOk, OnErr};
+ghost use Rattle.std.specs.Prelude.{◌≡◌, ◌≤◌, ◌<◌, ◌+◌, ◌⊎◌, [], ◌∷◌, length, IfOk, OnErr};
 ghost use Rattle.gate_model.specs.Tree.{Yes, Bit, plain};
 ghost use Rattle.gate_model.specs.Makers.{and_gate, xor_gate, or_gate, mux_gate};
 ghost use Rattle.gate_model.specs.Made.{IsMade};

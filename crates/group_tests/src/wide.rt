@@ -1,12 +1,10 @@
 //! Groups of three bytes: one whose search meets a conflict, and one whose condition always holds.
 
-ghost use Rattle.std.specs.Prelude.{◌≡◌, ◌<◌, List, ℕ, [], ◌∷◌, length, IfOk};
-ghost use Rattle.term_model.specs.declared.Op.TheVariants.{Eq};
-ghost use Rattle.term_model.specs.Tree.{Apply};
+ghost use Rattle.std.specs.Prelude.{◌≡◌, ◌<◌, List, ℕ, [], ◌∷◌, IfOk};
 ghost use Rattle.term_model.specs.Words.{AreBytes};
 ghost use Rattle.term_model.specs.Conditions.{Hold};
 ghost use Rattle.term_arena.specs.Trees.{trees_of, Extends};
-ghost use Rattle.group_model.specs.Group.{IsGroup, HasAt};
+ghost use Rattle.group_model.specs.Group.{IsGroup};
 ghost use Rattle.group_tests.specs.Triples.{odd_or, sum};
 ghost use Rattle.term_arena.specs.Trees.{IsTermOf};
 

@@ -1,6 +1,6 @@
 //! Regions in the order of their bases.
 
-ghost use Rattle.std.specs.Prelude.{◌≡◌, Option, ◌+◌, ◌≤◌, ◌^◌, ◌∷◌, Some, None, IfSome, IfNone, length};
+ghost use Rattle.std.specs.Prelude.{◌≡◌, Option, ◌≤◌, ◌^◌, ◌∷◌, None, IfSome, IfNone, length};
 ghost use Rattle.std.specs.Bool.{OnTrue, OnFalse};
 ghost use Rattle.std.specs.List.{All, AllPairs};
 ghost use Rattle.memory_map.specs.Part.{Part};

@@ -5,7 +5,7 @@
 //! values of the byte together. Table and stack have room for 16 terms and lie in the frame of a
 //! call; conditions of more terms have no lanes here.
 
-ghost use Rattle.std.specs.Prelude.{◌≡◌, ◌<◌, ◌≤◌, [], length, slice_index, slice_index_or, slice_set, IfSome, IsTrue};
+ghost use Rattle.std.specs.Prelude.{◌≡◌, ◌<◌, ◌≤◌, [], length, slice_index, slice_index_or, IfSome};
 ghost use Rattle.term_arena.specs.Trees.{tree_of};
 ghost use Rattle.narrow_solve.specs.Lanes.{AreLanes};
 ghost use Rattle.narrow_solve.specs.Table.{IsTable, IsReadable, IsNext};

@@ -8,7 +8,7 @@
 //! the rules allow; it is normal, where the operands are; and a normal term that reads no input is a constant.
 #![tactic(auto)]
 
-ghost use Rattle.std.specs.Prelude.{◌≡◌, ℕ, List, None};
+ghost use Rattle.std.specs.Prelude.{◌≡◌, ℕ, List};
 ghost use Rattle.term_model.specs.declared.Op.{Op};
 ghost use Rattle.term_model.specs.Tree.{Tree, Const};
 ghost use Rattle.term_model.specs.Value.{op_value, val};

@@ -1,6 +1,6 @@
 //! The terms of the conditions.
 
-ghost use Rattle.std.specs.Prelude.{◌≡◌, ◌<◌, ◌%◌, length, IfOk, IfSome, option_map};
+ghost use Rattle.std.specs.Prelude.{◌≡◌, ◌<◌, length, IfOk, IfSome, option_map};
 ghost use Rattle.rv_word.specs.declared.AluOp.TheVariants.{And};
 ghost use Rattle.rv_word.specs.Word.{byte_of as byte_number};
 ghost use Rattle.term_model.specs.declared.Op.TheVariants.{Alu, Eq};

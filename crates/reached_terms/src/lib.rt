@@ -1,7 +1,7 @@
 //! The terms that stand under conditions, without recursion: from the highest number down.
 #![tactic(auto)]
 
-ghost use Rattle.std.specs.Prelude.{◌≡◌, ◌<◌, ◌≤◌, ◌⊎◌, ◌↔◌, ℕ, length, All, Contains, IfOk, OnOk};
+ghost use Rattle.std.specs.Prelude.{◌<◌, ◌⊎◌, ◌↔◌, ℕ, length, All, Contains, IfOk, OnOk};
 ghost use Rattle.std.specs.Ordering.{nat_cmp};
 ghost use Rattle.std.specs.BTreeMap.{ContainsKey};
 ghost use Rattle.reached_terms.specs.Reached.{IsUnder, OperandsPass, AreReached, AreReachedPast};

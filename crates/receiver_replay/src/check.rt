@@ -1,12 +1,12 @@
 //! The report made anew.
 
-ghost use Rattle.std.specs.Prelude.{◌≡◌, ◌⊎◌, ◌<◌, ◌≤◌, ℕ, true, Err, length, IfOk, IfErr};
+ghost use Rattle.std.specs.Prelude.{◌≡◌, ◌<◌, ◌≤◌, ℕ, length, IfOk, IfErr};
 ghost use Rattle.elf32.specs.Loads.{IsImageOf};
 ghost use Rattle.elf32.specs.Loads as loads;
 ghost use Rattle.rv_event.specs.declared.event.End.TheVariants as ends;
 ghost use Rattle.report_format.specs.Text.{content_of};
 ghost use Rattle.report_laws.specs.Made.{spent_of};
-ghost use Rattle.receiver_replay.specs.Received.{is_its_program, its_run, by_spent, checked, IsBut, NamesRule};
+ghost use Rattle.receiver_replay.specs.Received.{its_run, by_spent, checked, IsBut, NamesRule};
 ghost use Rattle.receiver_replay.specs.Right.{IsRight};
 
 use crate::difference::first_difference;

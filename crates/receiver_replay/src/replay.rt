@@ -1,6 +1,6 @@
 //! The report's input run again.
 
-ghost use Rattle.std.specs.Prelude.{◌≡◌, ◌↔◌, Err, IfErr, IsTrue};
+ghost use Rattle.std.specs.Prelude.{◌≡◌, ◌↔◌, IfErr, IsTrue};
 ghost use Rattle.rv_event.specs.declared.event.End.TheVariants as ends;
 ghost use Rattle.report_format.specs.Text.{content_of};
 ghost use Rattle.receiver_replay.specs.Received.{replayed, IsBut, NamesRule};

@@ -1,6 +1,6 @@
 //! The first input of a class, and the sets of its bytes, group by group.
 
-ghost use Rattle.std.specs.Prelude.{◌≡◌, ◌≤◌, ◌<◌, ◌^◌, ℕ, List, All, Contains, None, false, find, length, map, slice_index, sum_by, IfOk, IfErr};
+ghost use Rattle.std.specs.Prelude.{◌≡◌, ◌≤◌, ◌<◌, ◌^◌, ℕ, All, Contains, None, false, find, length, map, slice_index, sum_by, IfOk, IfErr};
 ghost use Rattle.input_laws.specs.Inputs.{IsInput};
 ghost use Rattle.input_laws.specs.Sets.{set_at};
 ghost use Rattle.byte_sets.specs.ByteSet.{has};
@@ -13,7 +13,7 @@ use crate::put::put;
 use byte_sets::ByteSet;
 use group_model::Group;
 use narrow_solve::{first_narrow, narrow_sets};
-use std::alloc::{AllocError, Global};
+use std::alloc::Global;
 use term_arena::{Arena, Scratch};
 use wide_solve::WideGroup;
 

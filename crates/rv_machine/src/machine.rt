@@ -9,7 +9,7 @@ ghost use Rattle.memory_map.specs.Cells as cells;
 ghost use Rattle.rv_decode.specs.Rows.{IsWellFormed};
 ghost use Rattle.rv_machine.specs.State.{Goes, Ends, reg, write_reg, at, following, bits, no_call, event_of, trap, start};
 ghost use Rattle.rv_machine.specs.Calls.{read_reply, write_reply, break_reply, reply_to};
-ghost use Rattle.rv_machine.specs.Effects.{goes_on, taken, jump, exit, size_of, stored, address_of, after_load};
+ghost use Rattle.rv_machine.specs.Effects.{goes_on, taken, jump, exit, size_of, address_of, after_load};
 ghost use Rattle.rv_machine.specs.Effects.{after_store, input_bytes, after_call, effect, step};
 ghost use Rattle.rv_machine.specs.Progress.{Follows, EndsRun};
 ghost use Rattle.rv_machine.specs.Plain.{IsPlain};

@@ -4,8 +4,8 @@
 //! Each function here has an empty body, and its contract is a law.
 #![tactic(auto)]
 
-ghost use Rattle.std.specs.Prelude.{◌≡◌, ◌*◌, ◌^◌, ◌<◌, ◌≤◌, ℕ, Bool, List, [], true, false, Some, None, All, Contains};
-ghost use Rattle.std.specs.Prelude.{IsTrue, length, filter, find, map, nat_lt, option_map, slice_index, sum_by};
+ghost use Rattle.std.specs.Prelude.{◌≡◌, ◌*◌, ◌^◌, ◌<◌, ◌≤◌, ℕ, Bool, List, true, false, None, All, Contains};
+ghost use Rattle.std.specs.Prelude.{IsTrue, length, filter, find, nat_lt, option_map, slice_index, sum_by};
 ghost use Rattle.term_model.specs.Tree.{Tree};
 ghost use Rattle.term_model.specs.Places.{ReadsBelow};
 ghost use Rattle.term_model.specs.Truth.{is_truth};
@@ -21,7 +21,7 @@ ghost use Rattle.group_model.specs.Division.{IsGrouped, AreGroups};
 ghost use Rattle.group_laws.specs.Groups.{has_wide_group};
 ghost use Rattle.group_laws.specs.Parts.{IsByConditions};
 ghost use Rattle.wide_laws.specs.Roots.{wide_values};
-ghost use Rattle.set_laws.specs.Sets.{conditions_on, values_in, sets_from};
+ghost use Rattle.set_laws.specs.Sets.{values_in, sets_from};
 ghost use Rattle.set_laws.specs.ByClass.{sets_by_groups};
 ghost use Rattle.set_laws.specs.Spent.{is_wide, wide_groups, conflicts_in, all_conflicts, first_spent, place_and_width};
 ghost use Rattle.set_laws.specs.Found.{HasValues, group_conflicts, is_spent};

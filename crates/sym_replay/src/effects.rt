@@ -1,16 +1,15 @@
 //! What the events of a run leave in registers and memory.
 
-ghost use Rattle.std.specs.Prelude.{◌≡◌, ◌<◌, ◌≤◌, ◌+◌, ◌-◌, ◌^◌, ℕ, List, length, IfOk, IfSome, OnOk, slice_index};
+ghost use Rattle.std.specs.Prelude.{◌≡◌, ◌<◌, ◌≤◌, ◌+◌, ◌^◌, IfOk, IfSome, OnOk};
 ghost use Rattle.rv_word.specs.declared.AluOp.TheVariants.{Add};
 ghost use Rattle.term_model.specs.declared.Op.TheVariants.{Alu};
-ghost use Rattle.term_model.specs.Tree.{Tree, Const};
-ghost use Rattle.term_arena.specs.Trees.{tree_of, Extends};
+ghost use Rattle.term_model.specs.Tree.{Const};
+ghost use Rattle.term_arena.specs.Trees.{Extends};
 ghost use Rattle.normal_form.specs.Norm.{norm};
-ghost use Rattle.memory_map.specs.Cells.{next_address};
 ghost use Rattle.rv_decode.specs.Rows.{IsWellFormed};
 ghost use Rattle.rv_decode.specs.Table.{decoded};
 ghost use Rattle.rv_machine.specs.State.{bits as bits_of};
-ghost use Rattle.replay_law.specs.Terms.{reg_term, put_reg, put_trees, with_tree};
+ghost use Rattle.replay_law.specs.Terms.{put_reg, put_trees, with_tree};
 ghost use Rattle.replay_law.specs.Terms as definitions;
 ghost use Rattle.replay_law.specs.Forms.{byte_term as byte_of_term};
 ghost use Rattle.call_replies.specs.Replies.{reply_of, moved, IsOfHeap};

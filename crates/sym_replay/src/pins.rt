@@ -1,19 +1,15 @@
 //! What the events of a run ask of another input.
 
-ghost use Rattle.std.specs.Prelude.{◌≡◌, ◌<◌, ◌≤◌, ◌+◌, ◌-◌, ◌^◌, ℕ, List, length, IfOk, OnOk, IfSome, slice_index, if◌then◌else◌, ◌==◌, ◌++◌, [], true};
+ghost use Rattle.std.specs.Prelude.{◌≡◌, ◌<◌, ◌+◌, OnOk, IfSome, if◌then◌else◌, ◌==◌, ◌++◌, [], true};
 ghost use Rattle.rv_word.specs.declared.AluOp.TheVariants.{Add};
 ghost use Rattle.term_model.specs.declared.Op.TheVariants.{Alu};
-ghost use Rattle.term_model.specs.Tree.{Tree, Const};
-ghost use Rattle.term_arena.specs.Trees.{Extends, trees_of};
+ghost use Rattle.term_model.specs.Tree.{Const};
+ghost use Rattle.term_arena.specs.Trees.{Extends};
 ghost use Rattle.normal_form.specs.Norm.{norm};
 ghost use Rattle.term_model.specs.ByteNumber.{TakesByteNumber};
-ghost use Rattle.memory_map.specs.Cells.{next_address};
 ghost use Rattle.rv_decode.specs.Rows.{IsWellFormed};
-ghost use Rattle.rv_machine.specs.State.{bits as bits_of};
-ghost use Rattle.replay_law.specs.Forms.{with_conditions, branch_conditions};
+ghost use Rattle.replay_law.specs.Forms.{branch_conditions};
 ghost use Rattle.replay_law.specs.Forms as forms;
-ghost use Rattle.replay_law.specs.Terms.{reg_term};
-ghost use Rattle.replay_law.specs.Terms as definitions;
 ghost use Rattle.replay_law.specs.Follow.{fetched_byte, fetch_conditions, row_conditions, instr_conditions, event_conditions};
 ghost use Rattle.rv_decode.specs.Table.{decoded};
 ghost use Rattle.path_condition.specs.Listed.{Belong};

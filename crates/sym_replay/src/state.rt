@@ -1,13 +1,13 @@
 //! Registers and memory as numbers and terms.
 
 ghost use Rattle.std.specs.Prelude.{◌≡◌, ◌<◌, ◌≤◌, ◌+◌, ◌^◌, ◌&&◌, ◌==◌, nat_le, nat_lt, if◌then◌else◌, true, ℕ, List};
-ghost use Rattle.std.specs.Prelude.{length, Some, None, IfSome, IfNone, IsSome, IfOk, OnOk, All};
+ghost use Rattle.std.specs.Prelude.{Some, None, IfSome, IfNone, IsSome, IfOk, OnOk, All};
 ghost use Rattle.term_model.specs.Tree.{Tree, Const};
 ghost use Rattle.term_arena.specs.Trees.{tree_of, Extends};
-ghost use Rattle.memory_map.specs.Cells.{byte_at, fetched};
+ghost use Rattle.memory_map.specs.Cells.{fetched};
 ghost use Rattle.memory_map.specs.Heaps.{may_break, with_break};
-ghost use Rattle.replay_law.specs.Terms.{reg_term, put_reg, put_trees, with_tree, zero_between, start_terms};
-ghost use Rattle.sym_replay.specs.Cells.{without_bytes, over_bare_cells};
+ghost use Rattle.replay_law.specs.Terms.{put_reg, with_tree, zero_between, start_terms};
+ghost use Rattle.sym_replay.specs.Cells.{over_bare_cells};
 ghost use Rattle.sym_replay.specs.Values.{value_tree, IsTermIn, IsValueIn, IsValueOf};
 ghost use Rattle.sym_replay.specs.States.{terms_of, register_tree, AreWithin, HoldsBytes, IsKnownByte, IsKnownWord, IsState};
 ghost use Rattle.std.specs.Ordering.{nat_cmp};

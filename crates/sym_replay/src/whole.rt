@@ -1,6 +1,6 @@
 //! The replay of a whole run.
 
-ghost use Rattle.std.specs.Prelude.{◌≡◌, ◌<◌, ◌≤◌, ◌+◌, ◌↔◌, ℕ, List, [], length, drop, slice_get, IfOk, IsTrue};
+ghost use Rattle.std.specs.Prelude.{◌≡◌, ◌<◌, ◌+◌, ◌↔◌, ℕ, List, length, drop, slice_get, IfOk, IsTrue};
 ghost use Rattle.elf32.specs.Loads.{program_of};
 ghost use Rattle.rv_machine.specs.Class.{in_class};
 ghost use Rattle.term_model.specs.Conditions.{Hold};

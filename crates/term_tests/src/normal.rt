@@ -1,7 +1,6 @@
 //! The rules of normal forms by worked cases, and normal forms of operations on constants.
 
-ghost use Rattle.std.specs.Prelude.{◌≡◌, ◌<◌, ◌≤◌, All, length, IfOk, IfSome, true};
-ghost use Rattle.term_model.specs.Tree.{Const};
+ghost use Rattle.std.specs.Prelude.{◌≡◌, ◌<◌, All, length, IfOk, IfSome, true};
 ghost use Rattle.term_arena.specs.Trees.{tree_of, Extends};
 ghost use Rattle.normal_form.specs.Normal.{IsNormal};
 ghost use Rattle.term_model.specs.ByteNumber.{TakesByteNumber};

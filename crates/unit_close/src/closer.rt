@@ -1,6 +1,6 @@
 //! The closer.
 
-ghost use Rattle.std.specs.Prelude.{◌≡◌, ◌<◌, ◌↔◌, ◌++◌, ◌∷◌, [], List, length, Some, true, false, IfOk, IfErr};
+ghost use Rattle.std.specs.Prelude.{◌≡◌, ◌<◌, ◌↔◌, ◌++◌, ◌∷◌, [], List, Some, true, false, IfOk, IfErr};
 ghost use Rattle.gate_net.specs.declared.literals.Lit.{Lit};
 ghost use Rattle.gate_net.specs.Lits.{negation, AreNamed};
 ghost use Rattle.search_model.specs.Literals.{named};

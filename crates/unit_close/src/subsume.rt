@@ -1,8 +1,7 @@
 //! Watches without the learned clauses of which others are parts. Where such a clause forces a literal, its part forces
 //! the same one, or is itself a conflict.
 
-ghost use Rattle.std.specs.Prelude.{◌≡◌, ◌<◌, ◌≤◌, ◌+◌, ◌++◌, ◌∷◌, [], List, length, take, drop, true, false, IfOk, IfErr, Contains};
-ghost use Rattle.gate_net.specs.declared.literals.Lit.{Lit};
+ghost use Rattle.std.specs.Prelude.{◌≡◌, ◌≤◌, ◌+◌, ◌++◌, ◌∷◌, [], length, take, drop, true, false, IfOk, IfErr, Contains};
 ghost use Rattle.gate_net.specs.Lits.{AreNamed};
 ghost use Rattle.unit_close.specs.Subsumed.{Subsumes, AreSubsuming, StandFor};
 

@@ -1,6 +1,6 @@
 //! Division bit by bit.
 
-ghost use Rattle.std.specs.Prelude.{◌≡◌, ◌<◌, ◌+◌, length, IfOk};
+ghost use Rattle.std.specs.Prelude.{◌≡◌, ◌+◌, length, IfOk};
 ghost use Rattle.gate_model.specs.Makers.{tree_gates};
 ghost use Rattle.gate_net.specs.Trees.{all_signed_of, Extends};
 ghost use Rattle.word_bits.specs.Circuits.{nots, sum, carry, choose, rest_of, quotient};

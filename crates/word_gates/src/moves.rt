@@ -1,12 +1,12 @@
 //! Words of Lits that are moved, filled and negated: nothing here makes a gate.
 
-ghost use Rattle.std.specs.Prelude.{◌≡◌, ℕ, ◌<◌, ◌+◌, List, length, IfOk};
+ghost use Rattle.std.specs.Prelude.{◌≡◌, ℕ, ◌<◌, List, length, IfOk};
 ghost use Rattle.gate_model.specs.Tree.{Tree};
 ghost use Rattle.gate_model.specs.Makers.{tree_gates};
 ghost use Rattle.gate_net.specs.Trees.{signed_of, all_signed_of};
-ghost use Rattle.word_bits.specs.Circuits.{nos, nots, shift_in, up, down};
+ghost use Rattle.word_bits.specs.Circuits.{nots, shift_in, up, down};
 ghost use Rattle.gate_net.specs.Lits.{AreNamed};
-ghost use Rattle.word_gates.specs.Lits.{HasYes, KeepBelow, AreMade};
+ghost use Rattle.word_gates.specs.Lits.{KeepBelow, AreMade};
 
 use gate_net::Lit;
 use no_memory::NoMemory;

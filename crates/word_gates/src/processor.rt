@@ -1,6 +1,6 @@
 //! The operations of the processor on words of 32 bits.
 
-ghost use Rattle.std.specs.Prelude.{◌≡◌, ◌<◌, length, IfOk};
+ghost use Rattle.std.specs.Prelude.{◌≡◌, length, IfOk};
 ghost use Rattle.gate_model.specs.Makers.{tree_gates};
 ghost use Rattle.gate_net.specs.Trees.{all_signed_of, Extends};
 ghost use Rattle.word_bits.specs.Circuits.{nots, sum, sign, less, less_signed, equal, truth, shift_right, upper_product, quotient};

@@ -1,6 +1,6 @@
 //! Terms of an arena.
 
-ghost use Rattle.std.specs.Prelude.{◌<◌, ◌≤◌, length, IfOk};
+ghost use Rattle.std.specs.Prelude.{◌<◌, length, IfOk};
 ghost use Rattle.term_arena.specs.Trees.{Extends};
 
 use no_memory::NoMemory;

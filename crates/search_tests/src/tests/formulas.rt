@@ -1,8 +1,8 @@
 //! Formulas of small circuits.
 
-ghost use Rattle.std.specs.Prelude.{◌≡◌, ◌≢◌, ◌<◌, ◌≤◌, length, IfOk};
+ghost use Rattle.std.specs.Prelude.{◌≢◌, ◌<◌, length, IfOk};
 ghost use Rattle.gate_model.specs.Makers.{no};
-ghost use Rattle.gate_net.specs.Trees.{signed_of, Extends};
+ghost use Rattle.gate_net.specs.Trees.{signed_of};
 
 use clause_form::{clauses, gate_clauses};
 use gate_net::{Gate, Lit, Net};

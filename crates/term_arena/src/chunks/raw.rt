@@ -1,7 +1,7 @@
 //! The functions that make, test or follow a raw pointer. None makes a number of one, and none
 //! compares one with another. Their callers, `list` and `table`, have no `unsafe` code but the
 //! taking of a chunk.
-ghost use Rattle.std.specs.Prelude.{◌≡◌, ◌*◌, ◌^◌, ◌<◌, ℕ, zero, None, Some, MatchBool};
+ghost use Rattle.std.specs.Prelude.{◌≡◌, ◌*◌, ◌^◌, ◌<◌, zero, None, Some, MatchBool};
 ghost use Rattle.std.specs.Mem.{type_size};
 ghost use Rattle.core.specs.Mem.Slots.{slots_ptr, lease_ptr, SamePlaces};
 ghost use Rattle.term_arena.specs.Links.{target, Leads, IsReached};
