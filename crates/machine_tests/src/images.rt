@@ -186,12 +186,45 @@ fn has_regions(alloc: Global) -> Result<bool, Fail> {
 /// A symbol table of an empty entry and of a function `f` of 4 bytes at 00010008, its names, and three section headers:
 /// none, the table at 96, and the names at 128.
 static SYMBOLS: [u32; 39] = [
-    0, 0, 0, 0, // no symbol
-    1, 0x0001_0008, 4, 0x12, // f
+    0,
+    0,
+    0,
+    0, // no symbol
+    1,
+    0x0001_0008,
+    4,
+    0x12, // f
     0x6600, // its name, between zeros
-    0, 0, 0, 0, 0, 0, 0, 0, 0, 0, // SHT_NULL
-    0, 2, 0, 0, 96, 32, 2, 0, 0, 0, // SHT_SYMTAB, whose names are those of section 2
-    0, 3, 0, 0, 128, 3, 0, 0, 0, 0, // SHT_STRTAB
+    0,
+    0,
+    0,
+    0,
+    0,
+    0,
+    0,
+    0,
+    0,
+    0, // SHT_NULL
+    0,
+    2,
+    0,
+    0,
+    96,
+    32,
+    2,
+    0,
+    0,
+    0, // SHT_SYMTAB, whose names are those of section 2
+    0,
+    3,
+    0,
+    0,
+    128,
+    3,
+    0,
+    0,
+    0,
+    0, // SHT_STRTAB
 ];
 
 /// A program whose section headers name a function.
@@ -217,7 +250,9 @@ fn has_symbols(alloc: Global, file: &[u8], count: usize) -> Result<bool, Fail> {
     }
     match symbols.as_slice() {
         [first, ..] => Ok(
-            first.value == 0x0001_0008 && first.size == 4 && first.name.as_slice() == b"f".as_slice(),
+            first.value == 0x0001_0008
+                && first.size == 4
+                && first.name.as_slice() == b"f".as_slice(),
         ),
         [] => Ok(true),
     }

@@ -65,6 +65,8 @@ fn leaves_its_copy(alloc: Global) -> Result<bool, Fail> {
 
 #[test]
 fn steps_and_runs(rt: HostRuntime) -> Result<(), Fail> {
-    assert!(rt; tells_one_event(rt.alloc())? && runs_on(rt.alloc())? && leaves_its_copy(rt.alloc())?);
+    assert!(rt;
+        tells_one_event(rt.alloc())? && runs_on(rt.alloc())? && leaves_its_copy(rt.alloc())?
+    );
     Ok(())
 }

@@ -138,7 +138,8 @@ pub fn names_fix_what_trees_fix()
         IsNet trees → All (AreNamed (length trees)) clauses → AreNamed (length trees) order →
         ((c : List Signed) → Contains (signed_clauses trees clauses) c ↔ IsGateClause (all_signed_of trees roots) c) →
         all_signed_of trees order ≡ order_of first places → ((l : Lit) → Contains bits l → Contains order l) →
-        is_conflict named clauses bits ≡ false }    ensures gates { (roots : List Signed) (c : List Signed) →
+        is_conflict named clauses bits ≡ false }
+    ensures gates { (roots : List Signed) (c : List Signed) →
         Contains (gate_formula roots) c ↔ IsGateClause roots c }
 {}
 
