@@ -1,5 +1,5 @@
 -- A group with its gates: what the search finds, and the sets.
-use Rattle.std.proofs.Common.{◌≡◌, ℕ, ◌*◌, ◌<◌, Bool, false, List, [], sym, ◌∙◌, ap, subst, length, map, get_or}
+use Rattle.std.proofs.Common.{◌≡◌, ℕ, ◌*◌, ◌^◌, ◌<◌, Bool, false, List, [], sym, ◌∙◌, ap, subst, length, map, get_or}
 use Rattle.std.specs.Prelude.{◌≢◌, All, Result, Err, slice_index}
 use Rattle.std.proofs.lemmas.List.{length-map}
 use Rattle.term_model.specs.Tree as term
@@ -19,7 +19,7 @@ use Rattle.wide_laws.specs.Bytes.{AreRoots, bytes_of}
 use Rattle.wide_laws.specs.Formula.{signed_trees, formula_of, order_of}
 use Rattle.wide_laws.specs.Roots.{roots_of, conflicts_of, frees, wide_values}
 use Rattle.wide_laws.specs.Sets.{fixed_from, force_roots, agreeing}
-use Rattle.wide_laws.proofs.First.{is_group_first}
+use Rattle.wide_laws.proofs.First.{is_group_first, count_below_choices}
 use Rattle.wide_laws.proofs.Joined.{settles, never_unsatisfiable}
 use Rattle.wide_solve.specs.Agreeing.{AreSets}
 use Rattle.wide_solve.specs.Tied.{Tied}
@@ -60,6 +60,9 @@ module _ (group : Tied) (net : List Tree) (roots bits order : List Lit) (is : Is
     tied_count =
         ap (λ (o : List Signed). conflict_count signed_trees (formula_of (all_signed_of net roots)) o) in_order
         ∙ ap (λ (rs : List Signed). conflict_count signed_trees (formula_of rs) (order_of mask group.places)) is.are_roots
+
+    pub tied_few : (y : List ℕ) → AreBytes y → Hold group.conditions y → conflicts_of mask group.conditions group.places < 2 ^ (8 * length group.places)
+    tied_few y bytes met = count_below_choices mask group.places group.conditions (roots_of group.conditions) own_roots y bytes met
 
     pub tied_long : (values : List Bool) → values ≡ values_found signed_trees (formula_of (all_signed_of net roots)) (all_signed_of net order) → length values ≡ 8 * length group.places
     tied_long values e =

@@ -1,6 +1,6 @@
 //! A group whose conditions tie its bytes together, as gates.
 
-ghost use Rattle.std.specs.Prelude.{◌≡◌, ◌<◌, ◌≤◌, ℕ, List, length, slice_index, slice_index_or, All, IfOk, Err};
+ghost use Rattle.std.specs.Prelude.{◌≡◌, ◌≢◌, ◌*◌, ◌^◌, ◌<◌, ◌≤◌, ℕ, List, length, slice_index, slice_index_or, All, IfOk, Err};
 ghost use Rattle.term_model.specs.Conditions.{Hold};
 ghost use Rattle.term_model.specs.Words.{AreBytes};
 ghost use Rattle.term_arena.specs.Trees.{trees_of};
@@ -74,7 +74,7 @@ impl<'a> WideGroup<'a> {
 
     /// The group's first bytes under a mask: those that meet its conditions and come before all
     /// others that do. Some bytes have to meet them. `Spent` comes where the search counts `budget`
-    /// conflicts.
+    /// conflicts, which it never does of a budget of as many as the places have choices of bytes.
     pub fn first(&self, alloc: Global, mask: &[u8], budget: u32) -> Result<Wide, WideError>
         requires possible { (y : List ℕ) × AreBytes y × Hold self.now.conditions y }
         requires masked { All (λ i. i < length mask.now) self.now.places }
@@ -85,6 +85,7 @@ impl<'a> WideGroup<'a> {
         ensures spent { (first width : ℕ) → result ≡ Err (Spent first width) →
             (budget ≤ conflicts_of mask.now self.now.conditions self.now.places)
             × (first ≡ slice_index self.now.places 0) × (width ≡ length self.now.places) }
+        ensures enough { 2 ^ (8 * length self.now.places) ≤ budget → (first width : ℕ) → result ≢ Err (Spent first width) }
     {
         let _net = self.net.len();
         let places = self.group.places.as_slice();

@@ -4,7 +4,7 @@
 //! A [`WideGroup`] has the gates of one group, for both.
 #![tactic(auto)]
 
-ghost use Rattle.std.specs.Prelude.{◌≡◌, ◌<◌, ◌≤◌, ℕ, List, length, slice_index, slice_index_or, All, IfOk, Err};
+ghost use Rattle.std.specs.Prelude.{◌≡◌, ◌≢◌, ◌*◌, ◌^◌, ◌<◌, ◌≤◌, ℕ, List, length, slice_index, slice_index_or, All, IfOk, Err};
 ghost use Rattle.term_model.specs.Conditions.{Hold};
 ghost use Rattle.term_model.specs.Words.{AreBytes};
 ghost use Rattle.term_arena.specs.Trees.{trees_of};
@@ -34,7 +34,8 @@ use std::alloc::Global;
 use term_arena::Arena;
 
 /// The group's first bytes under a mask: those that meet its conditions and come before all others
-/// that do. Some bytes have to meet them. `Spent` comes where the search counts `budget` conflicts.
+/// that do. Some bytes have to meet them. `Spent` comes where the search counts `budget` conflicts,
+/// which it never does of a budget of as many as the places have choices of bytes.
 pub fn first_wide(
     alloc: Global,
     arena: &Arena,
@@ -53,6 +54,7 @@ pub fn first_wide(
     ensures spent { (first width : ℕ) → result ≡ Err (Spent first width) →
         (budget ≤ conflicts_of mask.now (trees_of arena.now group.now.conditions) group.now.places)
         × (first ≡ slice_index group.now.places 0) × (width ≡ length group.now.places) }
+    ensures enough { 2 ^ (8 * length group.now.places) ≤ budget → (first width : ℕ) → result ≢ Err (Spent first width) }
 {
     let wide = WideGroup::new(alloc, arena, group)?;
     wide.first(alloc, mask, budget)
