@@ -65,6 +65,25 @@ printf 'int a, b; void f(int); int main(void) { switch (a) { %s } return b; }\nv
     "$(for i in 0 1 2 3 4 5 6 7 8 9; do printf 'case %s: f(%s); break; ' $i $((i * i % 7)); done)" >jumps.c
 CFLAGS='-fjump-tables -fno-tree-switch-conversion' "$top/kit/cc" jumps jumps.c 2>warnings
 grep -q 'by a table.*main' warnings || fail 'kit/cc: jumps by a table are not warned of'
+# errno and strtok's place, which a C library has for each thread, are apart from the data.
+cat >thread.c <<'EOF'
+#include <errno.h>
+#include <stdlib.h>
+#include <string.h>
+#include <unistd.h>
+static char kept[16] = "kept";
+int main(void) {
+    char text[] = "a,b", c;
+    if (read(7, &c, 1) != -1 || errno != EBADF || strcmp(strtok(text, ","), "a") || strcmp(strtok(0, ","), "b")) return 1;
+    if (strcmp(kept, "kept")) return 2;
+    abort();
+}
+EOF
+"$top/kit/cc" thread thread.c || status=1
+if command -v qemu-riscv32 >/dev/null; then
+    qemu-riscv32 ./thread
+    [ $? -eq 134 ] || fail 'kit: errno or strtok'
+fi
 if command -v qemu-riscv32 >/dev/null && command -v gdb-multiarch >/dev/null; then
     for name in $kit_programs; do
         "$top/kit/backtrace" "$name/$name" "$name/$name.report" >calls 2>&1

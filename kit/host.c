@@ -95,5 +95,6 @@ void _start(void)
 {
     static char name[] = "program";
     static char *words[] = {name, 0};
+    asm volatile("la tp, __tls_base");
     exit(main(1, words));
 }

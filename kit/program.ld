@@ -1,6 +1,7 @@
 /*
  * Code from 00010000 on; constants, data and zeroed memory in pages of their own, each filled up to a multiple of 16: a
- * segment ends at its last byte, and a C library reads whole words.
+ * segment ends at its last byte, and a C library reads whole words. What a C library has for each thread (errno, strtok's
+ * place) stands with the data, once, and tp has its address. The number before it has the linker give it bytes of its own.
  */
 ENTRY(_start)
 PHDRS
@@ -18,6 +19,8 @@ SECTIONS
   . = ALIGN(0x1000);
   .rodata : { *(.rodata .rodata.* .srodata .srodata.*) . = ALIGN(16); } :constants
   . = ALIGN(0x1000);
+  .tdata : { LONG(0) *(.tdata .tdata.* .tbss .tbss.*) . = ALIGN(16); } :data
+  __tls_base = ADDR(.tdata);
   .data : { *(.data .data.* .sdata .sdata.*) . = ALIGN(16); } :data
   . = ALIGN(0x1000);
   .bss : { *(.bss .bss.* .sbss .sbss.* COMMON) . = ALIGN(16); } :zeros
