@@ -92,7 +92,7 @@ fn report_with(
         length: program.len() as u32,
         digest: Sha256::digest(program),
         trap: trap_of(transcript.end),
-        steps: transcript.events.as_slice().len() as u32,
+        steps: transcript.events.len() as u32,
         seed,
         input: Bytes::from_vec(input),
         sets: Sets::from_vec(sets),

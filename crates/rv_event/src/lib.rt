@@ -6,7 +6,9 @@
 #![tactic(auto)]
 
 pub mod event;
+pub mod events;
 pub mod transcript;
 
 pub use event::{End, Event, EventKind, Trap, TrapKind};
-pub use transcript::{Events, Transcript, same_transcripts_are_equal};
+pub use events::Events;
+pub use transcript::{Transcript, same_transcripts_are_equal};

@@ -61,22 +61,18 @@ fn transcribe(
     ensures end { IfOk result (λ t. t.end ≡ (trace_from limit input.now machine.state).end) }
 {
     let n = input.len() as u32;
-    let mut events = Vec::new(alloc);
+    let mut events = Events::new(alloc);
     for _i in 0..limit {
         let stepped = machine.step(input);
         events.push(stepped.event)?;
         match stepped.end {
-            Some(end) => return Ok(Transcript {
-                n,
-                events: Events::from_vec(events),
-                end,
-            }),
+            Some(end) => return Ok(Transcript { n, events, end }),
             None => {}
         }
     }
     Ok(Transcript {
         n,
-        events: Events::from_vec(events),
+        events,
         end: End::Limit,
     })
 }

@@ -22,6 +22,10 @@ drop_next [] k e item = cc
 drop_next (x ∷ es) zero e item = let same : x ≡ e = cc in ap (λ h. h ∷ es) same
 drop_next (x ∷ es) (suc k) e item = drop_next es k e item
 
+-- where an event follows, its program counter is shown
+pub shown_at : (es : List Event) (end : End) (k : ℕ) (e : Event) → slice_get es k ≡ Some e → e.pc ≡ shown_next (drop k es) end
+shown_at es end k e item = sym (ap (λ fs. shown_next fs end) (drop_next es k e item))
+
 -- the conditions of the next event, and those of the events after it
 follow_next : (n : ℕ) (s : SymbolicState) (e : Event) (es : List Event) (end : End) → follow norm n s (e ∷ es) end ≡ event_conditions norm s e (shown_next es end) ++ follow norm n (terms_after norm n s e) es end
 unfolding follow

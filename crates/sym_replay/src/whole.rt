@@ -1,6 +1,6 @@
 //! The replay of a whole run.
 
-ghost use Rattle.std.specs.Prelude.{◌≡◌, ◌<◌, ◌+◌, ◌↔◌, ℕ, List, length, drop, slice_get, IfOk, IsTrue};
+ghost use Rattle.std.specs.Prelude.{◌≡◌, ◌<◌, ◌+◌, ◌↔◌, ℕ, List, length, drop, IfOk, IsTrue};
 ghost use Rattle.elf32.specs.Loads.{program_of};
 ghost use Rattle.rv_machine.specs.Class.{in_class};
 ghost use Rattle.term_model.specs.Conditions.{Hold};
@@ -17,31 +17,23 @@ use decode_cache::DecodeCache;
 use elf32::Image;
 use no_memory::NoMemory;
 use path_condition::Conditions;
-use rv_event::{End, Event, Transcript};
+use rv_event::{End, Events, Transcript};
 use std::alloc::Global;
 use term_arena::Arena;
 use trace_conditions::{conditions_are_proper, conditions_hold_of_the_class};
 
 /// What is shown after an event: the program counter of the next, or the value of the trap that ended the run.
-fn shown_after(events: &[Event], place: usize, end: End) -> u32
+fn shown_after(events: &Events, place: usize, end: End) -> u32
     requires { place < length events.now }
     ensures { result ≡ shown_next (drop (place + 1) events.now) end }
 {
-    match events.get(place + 1) {
-        Some(next) => next.pc,
-        None => match end {
-            End::Trap(trap) => trap.value,
-            End::Exit(_) | End::Limit => 0,
-        },
+    if events.len() - place > 1 {
+        return events.event(place + 1).pc;
     }
-}
-
-/// The event at a place.
-fn event_at(events: &[Event], place: usize) -> Event
-    requires { place < length events.now }
-    ensures { slice_get events.now place ≡ Some result }
-{
-    events[place]
+    match end {
+        End::Trap(trap) => trap.value,
+        End::Exit(_) | End::Limit => 0,
+    }
 }
 
 /// The conditions of a run of a program, over an arena: their trees are those of `conditions_of`, in order.
@@ -70,9 +62,9 @@ pub fn replay(
     let mut state = ReplayState::start(alloc, image)?;
     let mut conditions = Conditions::new(alloc);
     let mut decoded = DecodeCache::new();
-    let events = transcript.events.as_slice();
+    let events = &transcript.events;
     for i in 0..events.len() {
-        let event = event_at(events, i);
+        let event = events.event(i);
         let shown = shown_after(events, i, transcript.end);
         let instr = decoded.decode(event.pc, event.word);
         add_event(&mut conditions, arena, &state, &event, instr, shown)?;

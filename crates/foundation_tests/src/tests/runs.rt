@@ -16,25 +16,45 @@ fn event(pc: u32, word: u32, kind: EventKind) -> Event {
     }
 }
 
-/// A run of one instruction on an input of three bytes.
-fn run_of(alloc: Global, word: u32, end: End) -> Result<Transcript, AllocError> {
-    let mut events = Vec::new(alloc);
+/// An exit's event, with this code.
+fn exit(code: u32) -> Event {
+    Event {
+        pc: 0x10004,
+        word: 0x73,
+        addr: 0,
+        call: [93, code, 0, 0],
+        kind: EventKind::Call,
+    }
+}
+
+/// A run of one instruction and an exit on an input of three bytes.
+fn run_of(alloc: Global, word: u32, code: u32, end: End) -> Result<Transcript, AllocError> {
+    let mut events = Events::new(alloc);
     events.push(event(0x10000, word, EventKind::Plain))?;
-    Ok(Transcript {
-        n: 3,
-        events: Events::from_vec(events),
-        end,
-    })
+    events.push(exit(code))?;
+    Ok(Transcript { n: 3, events, end })
+}
+
+/// The last of a run's events.
+fn last(events: &Events) -> Option<Event> {
+    let count = events.len();
+    if count == 0 {
+        return None;
+    }
+    Some(events.event(count - 1))
 }
 
 #[test]
 fn runs_agree_by_all_their_parts(rt: HostRuntime) -> Result<(), Fail> {
-    let first = run_of(rt.alloc(), 0x13, End::Exit(7))?;
-    let same = run_of(rt.alloc(), 0x13, End::Exit(7))?;
-    let other_word = run_of(rt.alloc(), 0x93, End::Exit(7))?;
-    let other_end = run_of(rt.alloc(), 0x13, End::Limit)?;
-    let agree = first.agrees(&same) && !first.agrees(&other_word) && !first.agrees(&other_end);
-    assert!(rt; agree);
+    let first = run_of(rt.alloc(), 0x13, 7, End::Exit(7))?;
+    let same = run_of(rt.alloc(), 0x13, 7, End::Exit(7))?;
+    let other_word = run_of(rt.alloc(), 0x93, 7, End::Exit(7))?;
+    let other_code = run_of(rt.alloc(), 0x13, 8, End::Exit(7))?;
+    let other_end = run_of(rt.alloc(), 0x13, 7, End::Limit)?;
+    assert!(rt; first.agrees(&same) && last(&first.events) == Some(exit(7)));
+    assert!(rt;
+        !first.agrees(&other_word) && !first.agrees(&other_code) && !first.agrees(&other_end)
+    );
     Ok(())
 }
 

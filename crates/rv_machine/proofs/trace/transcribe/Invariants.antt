@@ -7,5 +7,6 @@ abbrev pub invariant-loop-i : goal.invariant-loop-i
 invariant-loop-i l = record {
   on : l.machine.over ≡ false;
   place : l.machine.state.place ≤ length l.input;
-  so_far : trace_from l.limit l.input l.fn.machine.state ≡ behind l.events.items (trace_from (l.limit - l._i) l.input l.machine.state);
+  few : length l.events ≤ l._i;
+  so_far : trace_from l.limit l.input l.fn.machine.state ≡ behind l.events (trace_from (l.limit - l._i) l.input l.machine.state);
 }

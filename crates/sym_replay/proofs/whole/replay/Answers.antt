@@ -43,9 +43,9 @@ loop-i-preserved c =
     let run = c.args.transcript.now in
     let program : Program = program_of c.args.image.now in
     let s = terms_of c.loop-i.arena c.loop-i.state in
-    let e = c.event_at-event.result in
-    let item : slice_get run.events c.loop-i.i ≡ Some e = sym (ap (λ es. slice_get es c.loop-i.i) c.as_slice-events.ensures) ∙ c.event_at-event.ensures in
-    let shown : c.shown_after-shown.result ≡ shown_next (drop (c.loop-i.i + 1) run.events) run.end = c.shown_after-shown.ensures ∙ ap (λ es. shown_next (drop (c.loop-i.i + 1) es) run.end) c.as_slice-events.ensures in
+    let e = c.event-event.result in
+    let item : slice_get run.events c.loop-i.i ≡ Some e = c.event-event.ensures in
+    let shown : c.shown_after-shown.result ≡ shown_next (drop (c.loop-i.i + 1) run.events) run.end = c.shown_after-shown.ensures in
     let listed = trees_of c.loop-i.arena c.loop-i.conditions in
     let new = later ∙ c.in_ok-add_event.ensures.trees ∙ ap (λ v. with_conditions listed (event_conditions norm s e v)) shown in
     let after = c.in_ok-follow_event.ensures.terms ∙ (λ i. terms_after norm run.n (grown i) e) in (
@@ -60,8 +60,7 @@ pub returns-clause-trees : goal.returns-clause-trees
 returns-clause-trees c =
     let run = c.args.transcript.now in
     let program : Program = program_of c.args.image.now in
-    let same : length c.as_slice-events.result.now ≡ length run.events = ap length c.as_slice-events.ensures in
-    let last : c.loop-i.i ≡ length run.events = omega (arith, same, c.loop-i-test.false, c.loop-i.auto.i-end) in
+    let last : c.loop-i.i ≡ length run.events = omega (arith, c.len-i-end.ensures, c.loop-i-test.false, c.loop-i.auto.i-end) in
     at_end run.n run.events run.end (whole.conditions_of program run) (trees_of c.loop-i.arena c.loop-i.conditions) (terms_of c.loop-i.arena c.loop-i.state) c.loop-i.i last c.loop-i.invariant.4
 
 pub returns-clause-class : goal.returns-clause-class
