@@ -6,7 +6,7 @@ use Rattle.report_format.specs.declared.lines.Lines.{Lines}
 use Rattle.report_format.specs.declared.error.ReadError.{ReadError}
 use Rattle.report_format.specs.declared.error.ReadError.TheVariants.{Line, NoMemory}
 use Rattle.text_lines.specs.Lines.{Unbroken, ComesNo}
-use Rattle.text_lines.proofs.LineLemmas.{none-other}
+use Rattle.text_lines.proofs.LineLemmas.{none_other}
 use Rattle.report_format.proofs.LineLemmas.{unbroken-program, unbroken-trap, unbroken-named, unbroken-data, unbroken-set}
 
 -- the line that was taken is this one
@@ -16,7 +16,7 @@ takes-as line other old new same takes = subst (λ l. Takes l old new) same take
 -- a line that isn't of the form is refused
 pub refused : (form : List ℕ → Type 0) (line : List ℕ) (old new : Lines) → Takes line old new → Unbroken line → ((l : List ℕ) → form l → Unbroken l) → (form line → ⊥)
     → Refuses form old (Line new.count)
-refused form line old new takes plain whole other = (takes.counted, none-other form line old.rest.now new.rest.now takes.parts plain whole other)
+refused form line old new takes plain whole other = (takes.counted, none_other form line old.rest.now new.rest.now takes.parts plain whole other)
 
 -- where no line comes next, none of the form does
 pub weaker : (form : List ℕ → Type 0) (at : Lines) (e : ReadError) → Refuses (λ _. Unit {0}) at e → Refuses form at e

@@ -84,9 +84,9 @@ joined-tells (l ∷ ls) (m ∷ ms) ul um same =
 -- ---- the next line
 
 -- where no line end follows, no line comes
-pub none-unended : (form : List ℕ → Type 0) (rest : List ℕ) → Unbroken rest → ComesNo form rest
-none-unended form rest none line more is e = absent 10 rest line more none e
+pub none_unended : (form : List ℕ → Type 0) (rest : List ℕ) → Unbroken rest → ComesNo form rest
+none_unended form rest none line more is e = absent 10 rest line more none e
 
 -- where the next line isn't of the form, none of the form comes
-pub none-other : (form : List ℕ → Type 0) (line rest following : List ℕ) → rest ≡ line ++ 10 ∷ following → Unbroken line → ((l : List ℕ) → form l → Unbroken l) → (form line → ⊥) → ComesNo form rest
-none-other form line rest following parts plain whole other l more is e = other (subst form (sym (first_cut 10 line l following more plain (whole l is) (sym parts ∙ e)).0) is)
+pub none_other : (form : List ℕ → Type 0) (line rest following : List ℕ) → rest ≡ line ++ 10 ∷ following → Unbroken line → ((l : List ℕ) → form l → Unbroken l) → (form line → ⊥) → ComesNo form rest
+none_other form line rest following parts plain whole other l more is e = other (subst form (sym (first_cut 10 line l following more plain (whole l is) (sym parts ∙ e)).0) is)
