@@ -1,13 +1,12 @@
 -- The lines of a report tell what it says, and its text tells its lines.
-use Rattle.std.proofs.Common.{◌≡◌, ◌∙◌, ◌⊎◌, ◌+◌, ◌-◌, ◌<◌, ◌≤◌, ℕ, zero, suc, List, [], ◌∷◌, ◌++◌, All, length, take, drop, get_or, arith, refl, sym, ap, subst, ⊎_elim, append_assoc, length-append, length-drop}
+use Rattle.std.proofs.Common.{◌≡◌, ◌∙◌, ◌<◌, ◌≤◌, ℕ, zero, suc, List, [], ◌∷◌, ◌++◌, All, length, take, drop, get_or, arith, refl, sym, ap, ⊎_elim, length-drop}
 use Rattle.std.specs.Prelude.{codes}
 use Rattle.std.proofs.lemmas.Bool.{cases_lt}
 use Rattle.std.proofs.lemmas.List.{append_cancel_left, take-append-drop, nil_from_length}
-use Rattle.std.proofs.lemmas.List.Elements.{All-head, All-tail, All-take, All-drop}
-use Rattle.hex.specs.Hex.{encode_lower}
+use Rattle.std.proofs.lemmas.List.Elements.{All-take, All-drop}
 use Rattle.text_lines.proofs.DigitLemmas.{bytes-from_all, encode-injective}
 use Rattle.text_lines.proofs.LineLemmas.{joined-tells}
-use Rattle.report_format.specs.Text.{Content, IsReport, data_line, data_lines, set_lines, revealed_line, head, tail, lines, text}
+use Rattle.report_format.specs.Text.{Content, IsReport, data_line, data_lines, set_lines, head, tail, lines, text}
 use Rattle.report_format.specs.Stages.{IsHead, head_lines}
 use Rattle.report_format.specs.declared.head.Head.{Head}
 use Rattle.report_format.proofs.TextLemmas.{data_lines-first, data_lines-empty}
