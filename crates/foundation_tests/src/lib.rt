@@ -1,4 +1,4 @@
-//! Numbers, runs, watches, byte sets, files and sinks as a caller makes them.
+//! Numbers, lines, runs, watches, byte sets, files and sinks as a caller makes them.
 #![tactic(auto)]
 
 #[cfg(test)]

@@ -6,8 +6,7 @@ use Rattle.std.proofs.lemmas.Bool.{ne_eqb, eq-eqb}
 use Rattle.std.proofs.lemmas.List.{drop_more, drop_all}
 use Rattle.std.proofs.lemmas.List.Elements.{All-head, All-tail}
 use Rattle.std.proofs.lemmas.Slice.Eq.{bytes_eq-Decides}
-use Rattle.report_format.specs.Text.{joined}
-use Rattle.report_format.proofs.LineLemmas.{Unbroken}
+use Rattle.text_lines.specs.Lines.{joined, Unbroken}
 use Rattle.receiver_replay.specs.Difference.{first_difference, byte_difference, line_ends}
 
 -- ---- from bytes to lines

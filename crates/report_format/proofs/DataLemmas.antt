@@ -1,25 +1,18 @@
 -- The lines of the input's bytes.
-use Rattle.std.proofs.Common.{◌≡◌, ◌∙◌, ◌+◌, ◌-◌, ◌<◌, ◌≤◌, ℕ, List, [], ◌∷◌, ◌++◌, All, length, replicate, take, drop, min, arith, refl, sym, ap, subst, append_assoc, length-append}
+use Rattle.std.proofs.Common.{◌≡◌, ◌∙◌, ◌+◌, ◌-◌, ◌<◌, ◌≤◌, ℕ, List, ◌∷◌, ◌++◌, All, length, replicate, take, drop, min, arith, refl, sym, ap, subst, append_assoc, length-append}
 use Rattle.std.specs.Prelude.{codes}
 use Rattle.std.proofs.lemmas.List.{append_cancel_left, length-replicate, length-take, take-append-drop}
-use Rattle.std.proofs.lemmas.List.Elements.{All-append, All-take, All-nil, All-cons, All-head, All-tail}
+use Rattle.std.proofs.lemmas.List.Elements.{All-append, All-take}
+use Rattle.text_lines.proofs.Cuts.{All-front, All-back}
+use Rattle.text_lines.proofs.DigitLemmas.{bytes-from_all, encode-injective}
+use Rattle.text_lines.specs.Lines.{ComesNo}
 use Rattle.report_format.specs.Text.{Content, IsReport, data_line, data_lines, set_lines, tail}
 use Rattle.report_format.specs.Reading.{FailsAt}
-use Rattle.report_format.specs.Stages.{IsAfter, content_with, ComesNo, IsDataLine, IsHead, FitsData, full}
+use Rattle.report_format.specs.Stages.{IsAfter, content_with, IsDataLine, IsHead, FitsData, full}
 use Rattle.report_format.specs.declared.head.Head.{Head}
-use Rattle.report_format.proofs.DigitLemmas.{bytes-from_all}
-use Rattle.report_format.proofs.FormLemmas.{encode-injective}
 use Rattle.report_format.proofs.TextLemmas.{piece_cut, data_lines-first}
 use Rattle.report_format.proofs.LineLemmas.{Continues, fails-here, step, choice-bytes}
 use Rattle.report_format.proofs.HeadLemmas.{full-sets, full-choice, zeros-low, report-with, head-with}
-
-pub front-low : (xs ys : List ℕ) → All (λ b. b < 256) (xs ++ ys) → All (λ b. b < 256) xs
-front-low [] ys all = All-nil (λ b. b < 256)
-front-low (x ∷ xs) ys all = All-cons (λ b. b < 256) x xs (All-head (λ b. b < 256) x (xs ++ ys) all) (front-low xs ys (All-tail (λ b. b < 256) x (xs ++ ys) all))
-
-pub back-low : (xs ys : List ℕ) → All (λ b. b < 256) (xs ++ ys) → All (λ b. b < 256) ys
-back-low [] ys all = all
-back-low (x ∷ xs) ys all = back-low xs ys (All-tail (λ b. b < 256) x (xs ++ ys) all)
 
 -- the lines after the input's
 abbrev later : Content → List (List ℕ)
@@ -57,7 +50,7 @@ module _ (of : Head) (xs : List ℕ) (content : Content) (more : List (List ℕ)
   others-long = omega (arith, fits.long, ap length fits.input, length-append xs fits.others, unread)
 
   others-low : All (λ b. b < 256) fits.others
-  others-low = back-low xs fits.others (rw fits.input at (choice-bytes content.sets content.input report.input_in_sets))
+  others-low = All-back (λ b. b < 256) xs fits.others (rw fits.input at (choice-bytes content.sets content.input report.input_in_sets))
 
   pub next-piece : more ≡ data_line (take 32 fits.others) ∷ (data_lines (drop 32 fits.others) ++ later content)
   next-piece = fits.left ∙ ap (λ ls. ls ++ later content) (data_lines-first fits.others (omega (arith, others-long, unread)))
@@ -85,7 +78,7 @@ data-fails of xs text rest count after unread none =
 pub data-step : (of : Head) (xs piece text rest remains : List ℕ) (count : ℕ) → IsHead of → IsAfter (FitsData of xs) text rest count → length xs < of.input
     → length piece ≡ min 32 (of.input - length xs) → All (λ b. b < 256) piece → rest ≡ data_line piece ++ (10 ∷ remains) → IsAfter (FitsData of (xs ++ piece)) text remains (count + 1)
 data-step of xs piece text rest remains count is after unread long low next =
-    let xs-low = front-low xs after.fit.others (rw after.fit.input at (choice-bytes after.draft.sets after.draft.input after.report.input_in_sets)) in
+    let xs-low = All-front (λ b. b < 256) xs after.fit.others (rw after.fit.input at (choice-bytes after.draft.sets after.draft.input after.report.input_in_sets)) in
     let more-low = All-append (λ b. b < 256) xs piece xs-low low in
     let few : length (xs ++ piece) ≤ of.input = omega (arith, length-append xs piece, long, unread) in
     step (FitsData of xs) text rest count after (FitsData of (xs ++ piece)) (data_line piece) remains (data-draft of (xs ++ piece)) _ next (draft-report of (xs ++ piece) is more-low few) (draft-fits of (xs ++ piece) few)

@@ -11,11 +11,13 @@ use Rattle.rv_event.specs.declared.event.Trap.{Trap}
 use Rattle.rv_event.specs.declared.event.TrapKind.{TrapKind}
 use Rattle.rv_event.specs.declared.event.TrapKind.TheVariants.{Illegal, FetchFault, MisalignedJump, LoadFault, StoreFault, Breakpoint, Abort}
 use Rattle.hex.specs.Hex.{encode_lower}
-use Rattle.report_format.proofs.DigitLemmas.{bytes-from_all}
-use Rattle.report_format.proofs.FormLemmas.{first_cut, dark-without, dark-decimal, dark-kind, dark-word, encode-injective, word-injective}
+use Rattle.text_lines.proofs.Cuts.{first_cut, dark-decimal, dark-word, spaceless}
+use Rattle.text_lines.proofs.DigitLemmas.{bytes-from_all, encode-injective, word-injective}
+use Rattle.text_lines.specs.Lines.{ComesNo}
+use Rattle.report_format.proofs.FormLemmas.{dark-kind}
 use Rattle.report_format.specs.Text.{Content, IsReport, kind_name, word_digits, program_line, trap_line, steps_line, seed_line, input_line, data_lines, set_lines, head, tail, lines, joined}
 use Rattle.report_format.specs.Reading.{FailsAt}
-use Rattle.report_format.specs.Stages.{IsAfter, ComesNo, IsProgramLine, IsTrapLine, IsNamedLine, IsHead, head_lines, content_with, FitsData, full}
+use Rattle.report_format.specs.Stages.{IsAfter, IsProgramLine, IsTrapLine, IsNamedLine, IsHead, head_lines, content_with, FitsData, full}
 use Rattle.report_format.specs.declared.head.Head.{Head}
 use Rattle.report_format.proofs.LineLemmas.{Continues, fails-here, after-lines, recast}
 
@@ -215,9 +217,9 @@ kind-injective a b same = sym (letter_tells a) ∙ (ap (λ (l : List ℕ). lette
 trap-injective : (a b : Trap) → a.pc < 2 ^ 32 → a.value < 2 ^ 32 → b.pc < 2 ^ 32 → b.value < 2 ^ 32 → trap_line a ≡ trap_line b → a ≡ b
 trap-injective a b pc-a value-a pc-b value-b same =
     let kinds = first_cut 32 (kind_name a.kind) (kind_name b.kind) (word_digits a.pc ++ (32 ∷ word_digits a.value)) (word_digits b.pc ++ (32 ∷ word_digits b.value))
-    (dark-without 32 _ (omega arith) (dark-kind a.kind)) (dark-without 32 _ (omega arith) (dark-kind b.kind)) (append_cancel_left (codes "trap ") _ _ same) in
+    (spaceless _ (dark-kind a.kind)) (spaceless _ (dark-kind b.kind)) (append_cancel_left (codes "trap ") _ _ same) in
     let words = first_cut 32 (word_digits a.pc) (word_digits b.pc) (word_digits a.value) (word_digits b.value)
-    (dark-without 32 _ (omega arith) (dark-word a.pc)) (dark-without 32 _ (omega arith) (dark-word b.pc)) kinds.1 in
+    (spaceless _ (dark-word a.pc)) (spaceless _ (dark-word b.pc)) kinds.1 in
     let kind = kind-injective a.kind b.kind kinds.0 in
     let pc = word-injective a.pc b.pc pc-a pc-b words.0 in
     let value = word-injective a.value b.value value-a value-b words.1 in
@@ -235,7 +237,7 @@ head-tells content of is in_range same =
     let small : content.length < 2 ^ 64 = omega (arith, is.program_length) in
     let small-of : of.length < 2 ^ 64 = omega (arith, in_range.program_length) in
     let fields = first_cut 32 (decimal content.length) (decimal of.length) (encode_lower content.digest) (encode_lower of.digest)
-    (dark-without 32 _ (omega arith) (dark-decimal content.length small)) (dark-without 32 _ (omega arith) (dark-decimal of.length small-of)) (append_cancel_left (codes "program ") _ _ program) in (
+    (spaceless _ (dark-decimal content.length small)) (spaceless _ (dark-decimal of.length small-of)) (append_cancel_left (codes "program ") _ _ program) in (
       decimal_injective content.length of.length small small-of fields.0,
       encode-injective content.digest of.digest (bytes-from_all content.digest is.digest_bytes) (bytes-from_all of.digest in_range.digest_bytes) fields.1,
       trap-injective content.trap of.trap is.trap_pc is.trap_value in_range.trap_pc in_range.trap_value trap,

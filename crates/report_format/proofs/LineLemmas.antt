@@ -1,48 +1,25 @@
 -- Lines of a text, and the line at which it fails.
-use Rattle.std.proofs.Common.{◌≡◌, ◌≢◌, ◌∙◌, ◌+◌, ◌-◌, ◌*◌, ◌/◌, ◌^◌, ◌<◌, ◌≤◌, ℕ, zero, suc, Bool, true, List, [], ◌∷◌, ◌++◌, All, length, take, drop, get_or, nat_lt, false, ◌==◌, arith, refl, sym, ap, append_assoc, append-nil, length-append, subst, ⊎_elim}
+use Rattle.std.proofs.Common.{◌≡◌, ◌∙◌, ◌+◌, ◌-◌, ◌*◌, ◌/◌, ◌^◌, ◌<◌, ◌≤◌, ℕ, zero, suc, Bool, true, List, [], ◌∷◌, ◌++◌, All, length, take, drop, get_or, false, ◌==◌, arith, refl, sym, ap, append_assoc, append-nil, length-append, subst, ⊎_elim}
 use Rattle.std.specs.Prelude.{◌↔◌, codes, if◌then◌else◌}
-use Rattle.std.specs.List.{list_all}
 use Rattle.std.specs.Fmt.{decimal}
 use Rattle.std.specs.Simd.{first_chunks}
-use Rattle.std.proofs.lemmas.Bool.{and_parts, ltb-true, cases_lt}
-use Rattle.std.proofs.lemmas.Grind.{flat_map-append}
+use Rattle.std.proofs.lemmas.Bool.{cases_lt}
 use Rattle.std.proofs.lemmas.List.{take-append-drop, length-take, length-map}
 use Rattle.std.proofs.Math.Seq.{take-append_seam}
 use Rattle.std.proofs.lemmas.List.Sums.{sum_by-cons}
-use Rattle.std.proofs.lemmas.List.Elements.{All-nil, All-cons, All-head, All-tail, All-append, All-map, All-take}
-use Rattle.hex.specs.Hex.{encode_lower}
+use Rattle.std.proofs.lemmas.List.Elements.{All-nil, All-cons, All-append, All-map, All-take, All-drop}
 use Rattle.input_laws.specs.Sets.{size, revealed, floor_log2, IsChoice}
 use Rattle.byte_sets.specs.ByteSet.{set_bytes}
 use Rattle.rv_event.specs.declared.event.Trap.{Trap}
 use Rattle.report_format.specs.Text.{Content, IsReport, kind_name, word_digits, program_line, trap_line, steps_line, seed_line, input_line, data_line, data_lines, set_line, lines_of_set, set_lines, revealed_line, head, tail, lines, joined, text as text_of}
 use Rattle.report_format.specs.Reading.{IsTextOf, FailsAt}
 use Rattle.report_format.specs.Stages.{IsAfter}
-use Rattle.report_format.proofs.DigitLemmas.{bytes-from_all}
-use Rattle.report_format.proofs.FormLemmas.{first_cut, dark-without, dark-decimal, dark-encode, dark-kind, dark-word, size_small, set_bytes-low}
+use Rattle.text_lines.specs.Lines.{Unbroken}
+use Rattle.text_lines.proofs.Cuts.{All-front}
+use Rattle.text_lines.proofs.LineLemmas.{literal, both, unbroken-dark, unbroken-decimal, unbroken-encode, unbroken-word, open_line, joined-more, lines-cut, no_lines}
+use Rattle.report_format.proofs.FormLemmas.{dark-kind, size_small, set_bytes-low}
 
 -- ---- lines have no line end in them
-
-abbrev pub Unbroken : List ℕ → Type 0
-Unbroken line = All (λ byte. byte ≢ 10) line
-
-pub literal : (xs : List ℕ) → list_all (λ d. nat_lt 10 d) xs ≡ true → Unbroken xs
-literal [] t = All-nil (λ d. d ≢ 10)
-literal (x ∷ xs) t =
-    let both = and_parts (nat_lt 10 x) _ t in
-    let above = ltb-true 10 x both.0 in
-    All-cons (λ d. d ≢ 10) x xs (λ is. omega (arith, above, is)) (literal xs both.1)
-
-pub both : (xs ys : List ℕ) → Unbroken xs → Unbroken ys → Unbroken (xs ++ ys)
-both xs ys p q = All-append (λ d. d ≢ 10) xs ys p q
-
-unbroken-decimal : (n : ℕ) → n < 2 ^ 64 → Unbroken (decimal n)
-unbroken-decimal n small = dark-without 10 (decimal n) (omega arith) (dark-decimal n small)
-
-unbroken-encode : (xs : List ℕ) → All (λ b. b < 256) xs → Unbroken (encode_lower xs)
-unbroken-encode xs low = dark-without 10 (encode_lower xs) (omega arith) (dark-encode xs (bytes-from_all xs low))
-
-unbroken-word : (n : ℕ) → Unbroken (word_digits n)
-unbroken-word n = dark-without 10 (word_digits n) (omega arith) (dark-word n)
 
 space : Unbroken (codes " ")
 space = literal (codes " ") refl
@@ -53,7 +30,7 @@ unbroken-program bytes digest small low =
 
 pub unbroken-trap : (trap : Trap) → Unbroken (trap_line trap)
 unbroken-trap trap =
-    both (codes "trap ") _ (literal (codes "trap ") refl) (both (kind_name trap.kind) _ (dark-without 10 (kind_name trap.kind) (omega arith) (dark-kind trap.kind))
+    both (codes "trap ") _ (literal (codes "trap ") refl) (both (kind_name trap.kind) _ (unbroken-dark (kind_name trap.kind) (dark-kind trap.kind))
     (both (codes " ") _ space (both (word_digits trap.pc) _ (unbroken-word trap.pc) (both (codes " ") _ space (unbroken-word trap.value)))))
 
 pub unbroken-named : (name : List ℕ) (n : ℕ) → Unbroken name → n < 2 ^ 64 → Unbroken (name ++ decimal n)
@@ -95,11 +72,7 @@ revealed-small (set ∷ sets) =
 chunks-bytes : (k : ℕ) (xs : List ℕ) → All (λ b. b < 256) xs → All (λ piece. All (λ b. b < 256) piece) (first_chunks 32 k xs)
 chunks-bytes zero xs low = All-nil (λ (piece : List ℕ). All (λ b. b < 256) piece)
 chunks-bytes (suc k) xs low =
-    All-cons (λ (piece : List ℕ). All (λ b. b < 256) piece) (take 32 xs) (first_chunks 32 k (drop 32 xs)) (All-take (λ b. b < 256) 32 xs low) (chunks-bytes k (drop 32 xs) (all-back (take 32 xs) (drop 32 xs) (rw take-append-drop low)))
-  where
-    all-back : (xs ys : List ℕ) → All (λ b. b < 256) (xs ++ ys) → All (λ b. b < 256) ys
-    all-back [] ys all = all
-    all-back (x ∷ xs) ys all = all-back xs ys (All-tail (λ b. b < 256) x (xs ++ ys) all)
+    All-cons (λ (piece : List ℕ). All (λ b. b < 256) piece) (take 32 xs) (first_chunks 32 k (drop 32 xs)) (All-take (λ b. b < 256) 32 xs low) (chunks-bytes k (drop 32 xs) (All-drop (λ b. b < 256) 32 xs low))
 
 data-unbroken : (input : List ℕ) → All (λ b. b < 256) input → All Unbroken (data_lines input)
 unfolding data_lines
@@ -180,29 +153,6 @@ lines-count content is =
     let few = is.input_length in
     omega (arith, length-append (data_lines content.input) (set_lines 0 content.sets ++ tail content), length-append (set_lines 0 content.sets) (tail content), data-count content.input, set-count 0 content.sets)
 
--- ---- a text is cut into lines in one way
-
-pub joined-append : (xs ys : List (List ℕ)) → joined (xs ++ ys) ≡ joined xs ++ joined ys
-joined-append xs ys = flat_map-append (λ l. l ++ 10 ∷ []) xs ys
-
-open_line : (line : List ℕ) (more : List (List ℕ)) (rest : List ℕ) → joined (line ∷ more) ++ rest ≡ line ++ (10 ∷ (joined more ++ rest))
-open_line line more rest = append_assoc (line ++ 10 ∷ []) (joined more) rest ∙ append_assoc line (10 ∷ []) (joined more ++ rest)
-
-lines-cut : (ls ms : List (List ℕ)) (rest r : List ℕ) → All Unbroken ls → All Unbroken ms → joined ls ++ rest ≡ joined ms ++ r → length ls ≤ length ms
-    → (more : List (List ℕ)) × (ms ≡ ls ++ more) × (rest ≡ joined more ++ r)
-lines-cut [] ms rest r ul um e le = (ms, refl, e)
-lines-cut (l ∷ ls) [] rest r ul um e le = absurd (omega arith)
-lines-cut (l ∷ ls) (m ∷ ms) rest r ul um e le =
-    let cut = first_cut 10 l m (joined ls ++ rest) (joined ms ++ r) (All-head Unbroken l ls ul) (All-head Unbroken m ms um) (sym (open_line l ls rest) ∙ (e ∙ open_line m ms r)) in
-    let more = lines-cut ls ms rest r (All-tail Unbroken l ls ul) (All-tail Unbroken m ms um) cut.1 (omega arith) in
-    let same = cut.0 in
-    let others = more.1 in
-    (more.0, cc, more.2)
-
-front-unbroken : (xs ys : List (List ℕ)) → All Unbroken (xs ++ ys) → All Unbroken xs
-front-unbroken [] ys all = All-nil Unbroken
-front-unbroken (x ∷ xs) ys all = All-cons Unbroken x xs (All-head Unbroken x (xs ++ ys) all) (front-unbroken xs ys (All-tail Unbroken x (xs ++ ys) all))
-
 -- ---- the first line that fails
 
 -- the rest begins with the first of these lines, or is empty where there is none
@@ -218,20 +168,12 @@ continues-all : (more : List (List ℕ)) (rest : List ℕ) → rest ≡ joined m
 continues-all [] rest e = e
 continues-all (line ∷ more) rest e = (joined more ++ [], e ∙ open_line line more [])
 
-too_long : (more : List (List ℕ)) (rest : List ℕ) → 0 < length more → [] ≡ joined more ++ rest → ⊥
-too_long [] rest some e = absurd (omega arith)
-too_long (line ∷ more) rest some e = let long = ap length (e ∙ open_line line more rest) in omega (arith, long, length-append line (10 ∷ (joined more ++ rest)))
-
-no_lines : (more : List (List ℕ)) → [] ≡ joined more ++ [] → more ≡ []
-no_lines [] e = refl
-no_lines (line ∷ more) e = absurd (too_long (line ∷ more) [] (omega arith) e)
-
 module _ (fits : Content → List (List ℕ) → Type 0) (text rest : List ℕ) (count : ℕ) (after : IsAfter fits text rest count) where
   whole : lines after.draft ≡ after.read ++ after.left
   whole = (after.same after.draft after.left after.report).1 after.fit
 
   read-unbroken : All Unbroken after.read
-  read-unbroken = front-unbroken after.read after.left (rw whole at (lines-unbroken after.draft after.report))
+  read-unbroken = All-front Unbroken after.read after.left (rw whole at (lines-unbroken after.draft after.report))
 
   pub count-small : count ≤ 100000
   count-small = omega (arith, after.counted, lines-count after.draft after.report, ap length whole, length-append after.read after.left)
@@ -244,7 +186,7 @@ module _ (fits : Content → List (List ℕ) → Type 0) (text rest : List ℕ) 
     not-shorter : r ≡ [] → length ms < length after.read → ⊥
     not-shorter none less =
         let cut = lines-cut ms after.read r rest ms-unbroken read-unbroken (sym begins ∙ after.parts) (omega arith) in
-        too_long cut.0 rest (omega (arith, ap length cut.1, length-append ms cut.0)) (sym none ∙ cut.2)
+        omega (arith, less, ap length cut.1, length-append ms cut.0, ap length (no_lines cut.0 rest (sym none ∙ cut.2)))
 
   -- no report that fits goes on as the text does: the text fails at the next line
   pub fails-here : ((content : Content) (more : List (List ℕ)) → IsReport content → fits content more → Continues more rest → ⊥) → FailsAt (count + 1) text
@@ -272,7 +214,7 @@ module _ (fits : Content → List (List ℕ) → Type 0) (text rest : List ℕ) 
         let ms = take (count + 1) (lines content) in
         let others = drop (count + 1) (lines content) in
         let all = take-append-drop (count + 1) (lines content) in
-        let plain = front-unbroken ms others (rw all (lines-unbroken content begins.report)) in
+        let plain = All-front Unbroken ms others (rw all (lines-unbroken content begins.report)) in
         let long : length ms ≡ count + 1 = omega (arith, length-take (count + 1) (lines content), begins.enough) in
         let cut = cut-at content begins.report ms begins.rest begins.parts plain (omega (arith, after.counted, long)) in
         let some : 0 < length cut.0 = omega (arith, after.counted, long, ap length cut.1, length-append after.read cut.0) in
@@ -290,7 +232,7 @@ module _ (fits : Content → List (List ℕ) → Type 0) (text rest : List ℕ) 
       (λ (less : length (lines content) < length after.read). absurd (not-shorter content is.report (lines content) [] begins all refl less))
       (λ (enough : length after.read ≤ length (lines content)).
       let cut = cut-at content is.report (lines content) [] begins all enough in
-      let none : cut.0 ≡ [] = no_lines cut.0 (sym over ∙ cut.2) in
+      let none : cut.0 ≡ [] = no_lines cut.0 [] (sym over ∙ cut.2) in
       subst (fits content) none ((after.same content cut.0 is.report).0 cut.1))
       (cases_lt (length (lines content)) (length after.read))
 
@@ -299,8 +241,7 @@ module _ (fits : Content → List (List ℕ) → Type 0) (text rest : List ℕ) 
       → ((content : Content) (more : List (List ℕ)) → IsReport content → fits content (line ∷ more) ↔ fits' content more) → IsAfter fits' text remains (count + 1)
   step fits' line remains draft left next report fit same = record {
     read = after.read ++ (line ∷ []);
-    parts = after.parts ∙ (ap (λ r. joined after.read ++ r) next ∙ sym (ap (λ t. t ++ remains) (joined-append after.read (line ∷ [])) ∙ (append_assoc (joined after.read) (joined (line ∷ [])) remains
-        ∙ ap (λ r. joined after.read ++ r) (open_line line [] remains))));
+    parts = joined-more after.read line text rest remains after.parts next;
     counted = omega (arith, after.counted, length-append after.read (line ∷ []));
     draft = draft;
     report = report;
@@ -339,9 +280,3 @@ after-lines read left draft text rest report fit parts = record {
   fit = fit;
   same = λ content more is. (λ e. e, λ e. e);
 }
-
--- one more line of the text
-pub joined-more : (read : List (List ℕ)) (line text rest remains : List ℕ) → text ≡ joined read ++ rest → rest ≡ line ++ (10 ∷ remains) → text ≡ joined (read ++ (line ∷ [])) ++ remains
-joined-more read line text rest remains parts next =
-    parts ∙ (ap (λ r. joined read ++ r) next ∙ sym (ap (λ t. t ++ remains) (joined-append read (line ∷ [])) ∙ (append_assoc (joined read) (joined (line ∷ [])) remains
-    ∙ ap (λ r. joined read ++ r) (open_line line [] remains))))

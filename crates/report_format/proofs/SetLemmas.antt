@@ -15,10 +15,11 @@ use Rattle.std.specs.Result.{is_ok}
 use Rattle.byte_sets.specs.declared.ByteSet.{ByteSet}
 use Rattle.byte_sets.specs.ByteSet.{has}
 use Rattle.byte_sets.proofs.Digits.{set_told}
+use Rattle.text_lines.proofs.Cuts.{first_cut, dark-decimal, spaceless}
+use Rattle.text_lines.proofs.DigitLemmas.{bytes-from_all, encode-injective}
 use Rattle.report_format.specs.Text.{set_line, lines_of_set, set_lines}
 use Rattle.report_format.specs.Stages.{full}
-use Rattle.report_format.proofs.DigitLemmas.{bytes-from_all}
-use Rattle.report_format.proofs.FormLemmas.{first_cut, dark-without, dark-decimal, encode-injective, size_small, set_bytes-low}
+use Rattle.report_format.proofs.FormLemmas.{size_small, set_bytes-low}
 use Rattle.report_format.proofs.TextLemmas.{set_lines-end}
 use Rattle.report_format.proofs.HeadLemmas.{full-choice}
 
@@ -119,8 +120,8 @@ next-set place (set ∷ sets) all = by (size set == 256) refl (next-set (place +
 -- a line tells the place and the set
 pub line-tells : (p q : ℕ) (s t : ℕ → Bool) → p < 2 ^ 64 → q < 2 ^ 64 → IsByteSet s → IsByteSet t → set_line p s ≡ set_line q t → (p ≡ q) × (s ≡ t)
 line-tells p q s t small-p small-q low-s low-t same =
-    let place = first_cut 32 (decimal p) (decimal q) _ _ (dark-without 32 _ (omega arith) (dark-decimal p small-p)) (dark-without 32 _ (omega arith) (dark-decimal q small-q)) (append_cancel_left (codes "set ") _ _ same) in
-    let count = first_cut 32 (decimal (size s)) (decimal (size t)) _ _ (dark-without 32 _ (omega arith) (dark-decimal (size s) (size_small s))) (dark-without 32 _ (omega arith) (dark-decimal (size t) (size_small t))) place.1 in
+    let place = first_cut 32 (decimal p) (decimal q) _ _ (spaceless _ (dark-decimal p small-p)) (spaceless _ (dark-decimal q small-q)) (append_cancel_left (codes "set ") _ _ same) in
+    let count = first_cut 32 (decimal (size s)) (decimal (size t)) _ _ (spaceless _ (dark-decimal (size s) (size_small s))) (spaceless _ (dark-decimal (size t) (size_small t))) place.1 in
     (decimal_injective p q small-p small-q place.0, set_told s t low-s low-t (encode-injective _ _ (bytes-from_all _ (set_bytes-low s)) (bytes-from_all _ (set_bytes-low t)) count.1))
 
 -- ---- choices

@@ -3,17 +3,18 @@ use Rattle.std.proofs.Common.{◌≡◌, ◌∙◌, ◌⊎◌, ◌+◌, ◌-◌,
 use Rattle.std.specs.Prelude.{codes, IsTrue}
 use Rattle.std.proofs.lemmas.List.{length-replicate, length-take, length-drop, take-append-drop, append_cancel_left, get_or-drop}
 use Rattle.std.proofs.Math.Seq.{drop-cons}
-use Rattle.std.proofs.lemmas.List.Elements.{All-nil, All-cons, All-append}
+use Rattle.std.proofs.lemmas.List.Elements.{All-nil, All-cons, All-append, All-take, All-drop}
 use Rattle.input_laws.specs.Sets.{IsByteSet, IsChoice}
 use Rattle.input_laws.proofs.Freed.{filled}
+use Rattle.text_lines.specs.Lines.{ComesNo}
+use Rattle.text_lines.proofs.Cuts.{All-front, All-back}
 use Rattle.report_format.specs.Text.{Content, IsReport, set_line, set_lines, revealed_line, data_lines, tail}
 use Rattle.report_format.specs.Reading.{FailsAt}
-use Rattle.report_format.specs.Stages.{IsAfter, content_with, ComesNo, IsHead, FitsData, FitsSets, IsToldSet, IsSetLine, full}
+use Rattle.report_format.specs.Stages.{IsAfter, content_with, IsHead, FitsData, FitsSets, IsToldSet, IsSetLine, full}
 use Rattle.report_format.specs.declared.head.Head.{Head}
 use Rattle.report_format.proofs.TextLemmas.{data_lines-empty}
 use Rattle.report_format.proofs.LineLemmas.{Continues, fails-here, step, recast, choice-bytes, choice-long}
 use Rattle.report_format.proofs.HeadLemmas.{full-sets, report-with, head-with}
-use Rattle.report_format.proofs.DataLemmas.{front-low, back-low}
 use Rattle.report_format.proofs.SetLemmas.{lines-skip, lines-told, AllFull, FirstTold, next-set, line-tells, choice-front, choice-append, full-rest}
 
 -- ---- after the input
@@ -60,17 +61,9 @@ choice-at [] set others (x ∷ input) h = (omega arith, h.0.0, h.0.1)
 choice-at (s ∷ sets) set others [] h = absurd h
 choice-at (s ∷ sets) set others (x ∷ input) h = let more = choice-at sets set others input h.1 in (omega (arith, more.0), more.1, more.2)
 
-back-sets : (xs ys : List (ℕ → Bool)) → All IsByteSet (xs ++ ys) → All IsByteSet ys
-back-sets [] ys all = all
-back-sets (x ∷ xs) ys all = back-sets xs ys (λ i d lt. all (suc i) d (omega arith))
-
-front-sets : (xs ys : List (ℕ → Bool)) → All IsByteSet (xs ++ ys) → All IsByteSet xs
-front-sets [] ys all = All-nil IsByteSet
-front-sets (x ∷ xs) ys all = All-cons IsByteSet x xs (all 0 x (omega arith)) (front-sets xs ys (λ i d lt. all (suc i) d (omega arith)))
-
 module _ (of : Head) (input : List ℕ) (told : List (ℕ → Bool)) (content : Content) (more : List (List ℕ)) (report : IsReport content) (fits : FitsSets of input told content more) where
   rest-sets : All IsByteSet fits.others
-  rest-sets = back-sets told fits.others (rw fits.sets_are at report.sets_of_bytes)
+  rest-sets = All-back IsByteSet told fits.others (rw fits.sets_are at report.sets_of_bytes)
 
   choice : IsChoice (told ++ fits.others) input
   choice = rw (fits.sets_are, fits.input_is) at report.input_in_sets
@@ -141,7 +134,7 @@ told-choice of input told text rest count after =
     let front = choice-front told after.fit.others (take (length told) input) (drop (length told) input) (omega (arith, length-take (length told) input, few)) (rw (take-append-drop (length told) input) all) in (
       few,
       front.0,
-      front-sets told after.fit.others (rw after.fit.sets_are at after.report.sets_of_bytes),
+      All-front IsByteSet told after.fit.others (rw after.fit.sets_are at after.report.sets_of_bytes),
       choice-bytes (told ++ after.fit.others) input all,
     )
 
@@ -152,7 +145,7 @@ filled-choice input told few low front =
     let whole = take-append-drop (length told) input in
     subst (IsChoice (told ++ replicate (length input - length told) full)) whole
     (choice-append told (replicate (length input - length told) full) (take (length told) input) (drop (length told) input) front
-    (full-rest (drop (length told) input) (length input - length told) (back-low (take (length told) input) (drop (length told) input) (rw whole low)) (omega (arith, length-drop (length told) input))))
+    (full-rest (drop (length told) input) (length input - length told) (All-drop (λ b. b < 256) (length told) input low) (omega (arith, length-drop (length told) input))))
 
 regroup : (told fulls : List (ℕ → Bool)) (set : ℕ → Bool) (others : List (ℕ → Bool)) → told ++ (fulls ++ (set ∷ others)) ≡ (told ++ (fulls ++ (set ∷ []))) ++ others
 regroup told fulls set others = sym (append_assoc told (fulls ++ (set ∷ [])) others ∙ ap (λ t. told ++ t) (append_assoc fulls (set ∷ []) others))
@@ -174,9 +167,9 @@ more-choice input told place set front few low is =
     let inside : k < length back = omega (arith, length-drop n input, is.after, is.within) in
     let parts : input ≡ (a ++ (b ++ (v ∷ []))) ++ c =
     sym (take-append-drop n input) ∙ (ap (λ d. a ++ d) (sym (take-append-drop k back) ∙ ap (λ d. b ++ d) (drop-cons back k 0 inside)) ∙ regroup-bytes a b c v) in
-    let back-bytes : All (λ b. b < 256) back = back-low a back (rw (take-append-drop n input) low) in
-    let b-bytes : All (λ b. b < 256) b = front-low b (drop k back) (rw (take-append-drop k back) back-bytes) in
-    let c-bytes : All (λ b. b < 256) c = back-low (b ++ (v ∷ [])) c (back-low a ((b ++ (v ∷ [])) ++ c) (rw (← append_assoc a (b ++ (v ∷ [])) c, ← parts) low)) in
+    let back-bytes : All (λ b. b < 256) back = All-drop (λ b. b < 256) n input low in
+    let b-bytes : All (λ b. b < 256) b = All-take (λ b. b < 256) k back back-bytes in
+    let c-bytes : All (λ b. b < 256) c = All-drop (λ b. b < 256) (suc k) back back-bytes in
     let v-byte : v < 256 = back-bytes k 0 inside in
     let sum : n + k ≡ place = omega (arith, is.after) in
     let at : v ≡ slice_index input place = get_or-drop n input k 0 ∙ ap (λ j. get_or input j 0) sum in

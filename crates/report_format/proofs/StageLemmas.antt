@@ -1,24 +1,22 @@
 -- Lines that are taken, and what is known after them.
-use Rattle.std.proofs.Common.{◌≡◌, ◌≢◌, ◌∙◌, ◌+◌, ◌^◌, ◌<◌, ◌≤◌, ℕ, List, length, arith, sym, subst}
-use Rattle.report_format.specs.Stages.{Takes, Refuses, ComesNo, IsProgramLine, IsTrapLine, IsNamedLine, IsDataLine, IsSetLine}
+use Rattle.std.proofs.Common.{◌≡◌, ◌+◌, ◌^◌, ◌<◌, ◌≤◌, ℕ, List, length, arith, sym, subst}
+use Rattle.report_format.specs.Stages.{Takes, Refuses, IsProgramLine, IsTrapLine, IsNamedLine, IsDataLine, IsSetLine}
 use Rattle.report_format.specs.Reading.{FailsAt, IsRefusal}
 use Rattle.report_format.specs.declared.lines.Lines.{Lines}
 use Rattle.report_format.specs.declared.error.ReadError.{ReadError}
 use Rattle.report_format.specs.declared.error.ReadError.TheVariants.{Line, NoMemory}
-use Rattle.report_format.proofs.FormLemmas.{first_cut}
-use Rattle.report_format.proofs.LineLemmas.{Unbroken, unbroken-program, unbroken-trap, unbroken-named, unbroken-data, unbroken-set}
+use Rattle.text_lines.specs.Lines.{Unbroken, ComesNo}
+use Rattle.text_lines.proofs.LineLemmas.{none_other}
+use Rattle.report_format.proofs.LineLemmas.{unbroken-program, unbroken-trap, unbroken-named, unbroken-data, unbroken-set}
 
 -- the line that was taken is this one
 pub takes-as : (line other : List ℕ) (old new : Lines) → line ≡ other → Takes line old new → Takes other old new
 takes-as line other old new same takes = subst (λ l. Takes l old new) same takes
 
 -- a line that isn't of the form is refused
-pub refused : (form : List ℕ → Type 0) (line : List ℕ) (old new : Lines) → Takes line old new → Unbroken line → ((l : List ℕ) → form l → Unbroken l) → ((l : List ℕ) → form l → line ≢ l)
+pub refused : (form : List ℕ → Type 0) (line : List ℕ) (old new : Lines) → Takes line old new → Unbroken line → ((l : List ℕ) → form l → Unbroken l) → (form line → ⊥)
     → Refuses form old (Line new.count)
-refused form line old new takes plain whole other = (
-  takes.counted,
-  λ l more is e. other l is (first_cut 10 line l new.rest.now more plain (whole l is) (sym takes.parts ∙ e)).0,
-)
+refused form line old new takes plain whole other = (takes.counted, none_other form line old.rest.now new.rest.now takes.parts plain whole other)
 
 -- where no line comes next, none of the form does
 pub weaker : (form : List ℕ → Type 0) (at : Lines) (e : ReadError) → Refuses (λ _. Unit {0}) at e → Refuses form at e

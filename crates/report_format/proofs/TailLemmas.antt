@@ -3,11 +3,13 @@ use Rattle.std.proofs.Common.{◌≡◌, ◌≢◌, ◌∙◌, ◌+◌, ◌≤�
 use Rattle.std.specs.Prelude.{codes}
 use Rattle.std.proofs.lemmas.List.{length-replicate}
 use Rattle.input_laws.specs.Sets.{IsByteSet, IsChoice}
+use Rattle.text_lines.proofs.LineLemmas.{literal}
+use Rattle.text_lines.specs.Lines.{ComesNo, Unbroken}
 use Rattle.report_format.specs.Text.{Content, IsReport, set_line, set_lines, revealed_line, tail, joined, text as text_of}
 use Rattle.report_format.specs.Reading.{FailsAt, IsTextOf}
-use Rattle.report_format.specs.Stages.{IsAfter, content_with, ComesNo, IsHead, FitsSets, FitsTail, full}
+use Rattle.report_format.specs.Stages.{IsAfter, content_with, IsHead, FitsSets, FitsTail, full}
 use Rattle.report_format.specs.declared.head.Head.{Head}
-use Rattle.report_format.proofs.LineLemmas.{Unbroken, literal, unbroken-revealed, revealed-small, Continues, fails-here, all-lines, step, choice-long}
+use Rattle.report_format.proofs.LineLemmas.{unbroken-revealed, revealed-small, Continues, fails-here, all-lines, step, choice-long}
 use Rattle.report_format.proofs.HeadLemmas.{full-sets, report-with, head-with, head-tells}
 use Rattle.report_format.proofs.SetLemmas.{lines-skip, AllFull, FirstTold}
 use Rattle.report_format.proofs.TextLemmas.{set_lines-end}

@@ -7,7 +7,6 @@
 
 mod data;
 mod error;
-mod fields;
 mod forms;
 mod head;
 pub mod laws;

@@ -1,10 +1,11 @@
 -- Bytes fail to be a report's text at one line.
-use Rattle.std.proofs.Common.{◌≡◌, ◌∙◌, ◌-◌, ◌<◌, ◌≤◌, ℕ, List, ◌++◌, length, take, drop, arith, sym, ap, ⊎_elim, append_assoc}
+use Rattle.std.proofs.Common.{◌≡◌, ◌∙◌, ◌-◌, ◌<◌, ◌≤◌, ℕ, List, ◌++◌, take, drop, arith, sym, ap, ⊎_elim, append_assoc}
 use Rattle.std.proofs.lemmas.Bool.{cases_lt}
 use Rattle.std.proofs.lemmas.List.{take-append-drop, take-take}
-use Rattle.report_format.specs.Text.{Content, lines, joined}
+use Rattle.text_lines.specs.Lines.{joined}
+use Rattle.text_lines.proofs.LineLemmas.{joined-append}
+use Rattle.report_format.specs.Text.{Content, lines}
 use Rattle.report_format.specs.Reading.{BeginsAs, FailsAt}
-use Rattle.report_format.proofs.LineLemmas.{joined-append}
 
 -- bytes that begin with some lines begin with fewer of them
 fewer : (m n : ℕ) (content : Content) (bytes : List ℕ) → m ≤ n → BeginsAs n content bytes → BeginsAs m content bytes

@@ -1,17 +1,16 @@
 -- The lines of a report tell what it says, and its text tells its lines.
-use Rattle.std.proofs.Common.{◌≡◌, ◌∙◌, ◌⊎◌, ◌+◌, ◌-◌, ◌<◌, ◌≤◌, ℕ, zero, suc, List, [], ◌∷◌, ◌++◌, All, length, take, drop, get_or, arith, refl, sym, ap, subst, ⊎_elim, append_assoc, length-append, length-drop}
+use Rattle.std.proofs.Common.{◌≡◌, ◌∙◌, ◌<◌, ◌≤◌, ℕ, zero, suc, List, [], ◌∷◌, ◌++◌, All, length, take, drop, get_or, arith, refl, sym, ap, ⊎_elim, length-drop}
 use Rattle.std.specs.Prelude.{codes}
 use Rattle.std.proofs.lemmas.Bool.{cases_lt}
 use Rattle.std.proofs.lemmas.List.{append_cancel_left, take-append-drop, nil_from_length}
-use Rattle.std.proofs.lemmas.List.Elements.{All-head, All-tail, All-take, All-drop}
-use Rattle.hex.specs.Hex.{encode_lower}
-use Rattle.report_format.specs.Text.{Content, IsReport, data_line, data_lines, set_lines, revealed_line, head, tail, lines, joined, text}
+use Rattle.std.proofs.lemmas.List.Elements.{All-take, All-drop}
+use Rattle.text_lines.proofs.DigitLemmas.{bytes-from_all, encode-injective}
+use Rattle.text_lines.proofs.LineLemmas.{joined-tells}
+use Rattle.report_format.specs.Text.{Content, IsReport, data_line, data_lines, set_lines, head, tail, lines, text}
 use Rattle.report_format.specs.Stages.{IsHead, head_lines}
 use Rattle.report_format.specs.declared.head.Head.{Head}
-use Rattle.report_format.proofs.DigitLemmas.{bytes-from_all}
-use Rattle.report_format.proofs.FormLemmas.{first_cut, encode-injective}
 use Rattle.report_format.proofs.TextLemmas.{data_lines-first, data_lines-empty}
-use Rattle.report_format.proofs.LineLemmas.{Unbroken, lines-unbroken, choice-bytes, choice-long}
+use Rattle.report_format.proofs.LineLemmas.{lines-unbroken, choice-bytes, choice-long}
 use Rattle.report_format.proofs.HeadLemmas.{head-with, head-tells, long-of}
 use Rattle.report_text_laws.proofs.SetLines.{sets-tell}
 
@@ -85,21 +84,6 @@ lines-tell a b is-a is-b same =
     λ i. record { length = told.0 i; digest = told.1 i; trap = told.2 i; steps = told.3 i; seed = told.4 i; input = inputs.0 i; sets = sets i }
 
 -- ---- the text
-
-open_line : (line : List ℕ) (more : List (List ℕ)) → joined (line ∷ more) ≡ line ++ (10 ∷ joined more)
-open_line line more = append_assoc line (10 ∷ []) (joined more)
-
-no_line : (line rest : List ℕ) → line ++ (10 ∷ rest) ≡ [] → ⊥
-no_line line rest same = omega (arith, ap length same, length-append line (10 ∷ rest))
-
-joined-tells : (ls ms : List (List ℕ)) → All Unbroken ls → All Unbroken ms → joined ls ≡ joined ms → ls ≡ ms
-joined-tells [] [] ul um same = refl
-joined-tells [] (m ∷ ms) ul um same = absurd (no_line m (joined ms) (sym (same ∙ open_line m ms)))
-joined-tells (l ∷ ls) [] ul um same = absurd (no_line l (joined ls) (sym (open_line l ls) ∙ same))
-joined-tells (l ∷ ls) (m ∷ ms) ul um same =
-    let cut = first_cut 10 l m (joined ls) (joined ms) (All-head Unbroken l ls ul) (All-head Unbroken m ms um) (sym (open_line l ls) ∙ (same ∙ open_line m ms)) in
-    let others = joined-tells ls ms (All-tail Unbroken l ls ul) (All-tail Unbroken m ms um) cut.1 in
-    λ i. cut.0 i ∷ others i
 
 pub text-tells : (a b : Content) → IsReport a → IsReport b → text a ≡ text b → a ≡ b
 unfolding text

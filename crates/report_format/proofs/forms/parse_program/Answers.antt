@@ -3,7 +3,7 @@ use Rattle.std.specs.Prelude.{codes}
 use Rattle.std.specs.Fmt.{decimal}
 use Rattle.hex.specs.Hex.{encode_lower}
 use Rattle.std.proofs.lemmas.List.{append_cancel_left}
-use Rattle.report_format.proofs.FormLemmas.{absent, first_cut, dark-without, dark-decimal}
+use Rattle.text_lines.proofs.Cuts.{absent, first_cut, dark-decimal, spaceless}
 use Rattle.report_format.proofs.forms.parse_program.Goals as goal
 
 pub returns-in_err-number-clause-none : goal.returns-in_err-number-clause-none
@@ -14,12 +14,12 @@ pub returns-in_err-length-clause-none : goal.returns-in_err-length-clause-none
 returns-in_err-length-clause-none c = λ none bytes digest few long low is.
     let fields = append_cancel_left (codes "program ") _ _ (sym c.in_ok-fields.ensures.some ∙ is) in
     let some = c.in_ok-number.ensures.some in
-    let cut = first_cut 32 _ (decimal bytes) _ (encode_lower digest) some.1 (dark-without 32 _ (omega arith) (dark-decimal bytes (omega arith))) (sym some.0 ∙ fields) in
-    c.in_err-length.ensures.none refl bytes (omega arith) few cut.0
+    let cut = first_cut 32 _ (decimal bytes) _ (encode_lower digest) some.1 (spaceless _ (dark-decimal bytes (omega arith))) (sym some.0 ∙ fields) in
+    c.in_err-length.ensures.none refl bytes few cut.0
 
 pub returns-in_err-digest-clause-none : goal.returns-in_err-digest-clause-none
 returns-in_err-digest-clause-none c = λ none bytes digest few long low is.
     let fields = append_cancel_left (codes "program ") _ _ (sym c.in_ok-fields.ensures.some ∙ is) in
     let some = c.in_ok-number.ensures.some in
-    let cut = first_cut 32 _ (decimal bytes) _ (encode_lower digest) some.1 (dark-without 32 _ (omega arith) (dark-decimal bytes (omega arith))) (sym some.0 ∙ fields) in
+    let cut = first_cut 32 _ (decimal bytes) _ (encode_lower digest) some.1 (spaceless _ (dark-decimal bytes (omega arith))) (sym some.0 ∙ fields) in
     c.in_err-digest.ensures.none refl digest long low cut.1

@@ -6,8 +6,9 @@ use Rattle.hex.specs.Hex.{encode_lower}
 use Rattle.input_laws.specs.Sets.{size}
 use Rattle.byte_sets.specs.ByteSet.{set_bytes, has}
 use Rattle.byte_sets.proofs.Digits.{set_told}
-use Rattle.report_format.proofs.FormLemmas.{absent, first_cut, dark-without, dark-decimal, size_small, set_bytes-length, set_bytes-low, encode-injective}
-use Rattle.report_format.proofs.DigitLemmas.{bytes-from_all}
+use Rattle.text_lines.proofs.Cuts.{absent, first_cut, dark-decimal, spaceless}
+use Rattle.text_lines.proofs.DigitLemmas.{encode-injective, bytes-from_all}
+use Rattle.report_format.proofs.FormLemmas.{size_small, set_bytes-length, set_bytes-low}
 use Rattle.std.proofs.lemmas.Fmt.{decimal_injective}
 use Rattle.byte_sets.proofs.Bits.{low as byte_low}
 use Rattle.report_format.proofs.forms.parse_set.Goals as goal
@@ -17,12 +18,12 @@ cut_place : (fields a b : List ℕ) (place : ℕ) (set : ℕ → Bool) → place
     → codes "set " ++ fields ≡ codes "set " ++ (decimal place ++ (32 ∷ (decimal (size set) ++ (32 ∷ encode_lower (set_bytes set)))))
     → (a ≡ decimal place) × (b ≡ decimal (size set) ++ (32 ∷ encode_lower (set_bytes set)))
 cut_place fields a b place set low parts none is =
-    first_cut 32 a (decimal place) b _ none (dark-without 32 _ (omega arith) (dark-decimal place (omega arith))) (sym parts ∙ append_cancel_left (codes "set ") _ _ is)
+    first_cut 32 a (decimal place) b _ none (spaceless _ (dark-decimal place (omega arith))) (sym parts ∙ append_cancel_left (codes "set ") _ _ is)
 
 cut_size : (rest a b : List ℕ) (set : ℕ → Bool) → rest ≡ a ++ (32 ∷ b) → All (λ d. d ≢ 32) a → rest ≡ decimal (size set) ++ (32 ∷ encode_lower (set_bytes set))
     → (a ≡ decimal (size set)) × (b ≡ encode_lower (set_bytes set))
 cut_size rest a b set parts none is =
-    first_cut 32 a (decimal (size set)) b _ none (dark-without 32 _ (omega arith) (dark-decimal (size set) (size_small set))) (sym parts ∙ is)
+    first_cut 32 a (decimal (size set)) b _ none (spaceless _ (dark-decimal (size set) (size_small set))) (sym parts ∙ is)
 
 pub returns-in_err-first-clause-none : goal.returns-in_err-first-clause-none
 returns-in_err-first-clause-none c = λ none place set low bytes some few is.
@@ -38,7 +39,7 @@ pub returns-in_err-place-clause-none : goal.returns-in_err-place-clause-none
 returns-in_err-place-clause-none c = λ none place set low bytes some few is.
     let first = c.in_ok-first.ensures.some in
     let cut = cut_place _ _ _ place set low first.0 first.1 (sym c.in_ok-fields.ensures.some ∙ is) in
-    c.in_err-place.ensures.none refl place (omega arith) (omega arith) cut.0
+    c.in_err-place.ensures.none refl place (omega arith) cut.0
 
 pub returns-in_err-count-clause-none : goal.returns-in_err-count-clause-none
 returns-in_err-count-clause-none c = λ none place set low bytes some few is.

@@ -1,7 +1,7 @@
 use Rattle.std.proofs.Common.{◌≡◌, ◌∙◌, true, not, true≢false, List, ℕ, ap, sym, subst}
 use Rattle.std.specs.Str.{bytes_eq}
 use Rattle.std.proofs.lemmas.Slice.Eq.{bytes_eq-Decides}
-use Rattle.report_format.proofs.LineLemmas.{Unbroken}
+use Rattle.text_lines.specs.Lines.{Unbroken}
 use Rattle.report_format.proofs.StageLemmas.{refused}
 use Rattle.report_format.proofs.head.expect_line.Goals as goal
 
@@ -13,4 +13,4 @@ differ xs ys e same =
 pub returns-then-ne-clause-err : goal.returns-then-ne-clause-err
 returns-then-ne-clause-err c =
     refused (λ l. l ≡ c.args.expected.now) c.in_ok-line.line.now c.args.lines.now c.take_line.new.lines c.in_ok-line.ensures.ok.0 c.in_ok-line.ensures.ok.1
-    (λ l is. subst Unbroken (sym is) c.requires.unbroken) (λ l is e. differ _ _ c.if-ne.ensures (e ∙ is))
+    (λ l is. subst Unbroken (sym is) c.requires.unbroken) (λ is. differ _ _ c.if-ne.ensures is)

@@ -2,11 +2,11 @@ use Rattle.std.proofs.Common.{◌≡◌, ◌∙◌, ◌+◌, ◌++◌, [], ◌�
 use Rattle.std.specs.Prelude.{codes}
 use Rattle.std.specs.Fmt.{decimal}
 use Rattle.std.proofs.lemmas.Result.{err_from_is_err_and}
+use Rattle.text_lines.proofs.LineLemmas.{joined-more}
 use Rattle.report_format.specs.Text.{program_line, trap_line, steps_line, seed_line, joined}
 use Rattle.report_format.specs.Reading.{FailsAt}
 use Rattle.report_format.specs.Stages.{IsProgramLine, IsTrapLine, IsNamedLine, IsHead}
 use Rattle.report_format.specs.declared.head.Head.{Head}
-use Rattle.report_format.proofs.LineLemmas.{joined-more}
 use Rattle.report_format.proofs.StageLemmas.{refusal-at}
 use Rattle.report_format.proofs.HeadLemmas.{fails-0, fails-1, fails-2, fails-3, fails-4, fails-5, after-head}
 use Rattle.report_format.proofs.head.read_head.Goals as goal

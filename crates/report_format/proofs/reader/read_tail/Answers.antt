@@ -6,10 +6,11 @@ use Rattle.input_laws.specs.Sets.{IsByteSet}
 use Rattle.input_laws.proofs.Freed.{filled}
 use Rattle.byte_sets.proofs.Bits.{low}
 use Rattle.byte_sets.specs.ByteSet.{has}
+use Rattle.text_lines.specs.Lines.{Unbroken}
 use Rattle.report_format.specs.Text.{revealed_line}
 use Rattle.report_format.specs.Stages.{IsAfter, FitsSets, FitsTail}
 use Rattle.report_format.proofs.ChoiceLemmas.{choice-filled, choice-length}
-use Rattle.report_format.proofs.LineLemmas.{Unbroken, count-small}
+use Rattle.report_format.proofs.LineLemmas.{count-small}
 use Rattle.report_format.proofs.StageLemmas.{refusal-at}
 use Rattle.report_format.proofs.TailLemmas.{tail-fails, tail-step, end-fails, end-step, over-fails, all-read, only-report, revealed-unbroken}
 use Rattle.report_format.proofs.reader.read_tail.Goals as goal

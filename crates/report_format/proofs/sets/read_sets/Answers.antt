@@ -5,7 +5,8 @@ use Rattle.std.specs.Prelude.{codes}
 use Rattle.std.proofs.lemmas.Slice.Eq.{starts_is}
 use Rattle.std.proofs.lemmas.Bool.Decides.{Decides-eqb}
 use Rattle.byte_sets.specs.ByteSet.{has}
-use Rattle.report_format.specs.Stages.{FitsSets, IsSetLine, ComesNo}
+use Rattle.text_lines.specs.Lines.{ComesNo}
+use Rattle.report_format.specs.Stages.{FitsSets, IsSetLine}
 use Rattle.report_format.proofs.LineLemmas.{count-small}
 use Rattle.report_format.proofs.StageLemmas.{refusal-at}
 use Rattle.report_format.proofs.SetReading.{after-data, sets-fail, sets-step, told-choice, filled-choice}

@@ -12,7 +12,7 @@ returns-in_default-clause-err c =
     let least = vec_len c.args.sets.now in
     refused (IsSetLine c.args.input.now least) c.in_ok-line.line.now c.args.lines.now c.take_line.new.lines c.in_ok-line.ensures.ok.0 c.in_ok-line.ensures.ok.1
     (λ l. whole-set c.args.input.now least l c.requires.few)
-    (λ l is e. c.in_default.ensures.none refl is.place is.set (omega (arith, is.told.within, c.requires.few)) is.told.bytes is.told.some is.told.few (e ∙ is.is))
+    (λ is. c.in_default.ensures.none refl is.place is.set (omega (arith, is.told.within, c.requires.few)) is.told.bytes is.told.some is.told.few is.is)
 
 pub returns-then-place-len-clause-err : goal.returns-then-place-len-clause-err
 returns-then-place-len-clause-err c =
@@ -20,9 +20,9 @@ returns-then-place-len-clause-err c =
     let read = c.in-Some.ensures.some in
     refused (IsSetLine c.args.input.now least) c.in_ok-line.line.now c.args.lines.now c.take_line.new.lines c.in_ok-line.ensures.ok.0 c.in_ok-line.ensures.ok.1
     (λ l. whole-set c.args.input.now least l c.requires.few)
-    (λ l is e.
+    (λ is.
     let small : is.place < 2 ^ 64 = omega (arith, is.told.within, c.requires.few) in
-    let same = line-tells c.in-Some.place is.place (has c.in-Some.set) is.set (omega (arith, read.3)) small (low c.in-Some.set) is.told.bytes (sym read.0 ∙ (e ∙ is.is)) in
+    let same = line-tells c.in-Some.place is.place (has c.in-Some.set) is.set (omega (arith, read.3)) small (low c.in-Some.set) is.told.bytes (sym read.0 ∙ is.is) in
     omega (arith, same.0, is.told.after, is.told.within, c.then-place-len.either, c.len.ensures))
 
 pub returns-then-not-contains-clause-err : goal.returns-then-not-contains-clause-err
@@ -31,9 +31,9 @@ returns-then-not-contains-clause-err c =
     let read = c.in-Some.ensures.some in
     refused (IsSetLine c.args.input.now least) c.in_ok-line.line.now c.args.lines.now c.take_line.new.lines c.in_ok-line.ensures.ok.0 c.in_ok-line.ensures.ok.1
     (λ l. whole-set c.args.input.now least l c.requires.few)
-    (λ l is e.
+    (λ is.
     let small : is.place < 2 ^ 64 = omega (arith, is.told.within, c.requires.few) in
-    let same = line-tells c.in-Some.place is.place (has c.in-Some.set) is.set (omega (arith, read.3)) small (low c.in-Some.set) is.told.bytes (sym read.0 ∙ (e ∙ is.is)) in
+    let same = line-tells c.in-Some.place is.place (has c.in-Some.set) is.set (omega (arith, read.3)) small (low c.in-Some.set) is.told.bytes (sym read.0 ∙ is.is) in
     let there : is.set (slice_index c.args.input.now is.place) ≡ true = is.told.has_byte in
     let here : has c.in-Some.set (slice_index c.args.input.now c.in-Some.place) ≡ true = ap (λ s. s (slice_index c.args.input.now c.in-Some.place)) same.1 ∙ (ap (λ k. is.set (slice_index c.args.input.now k)) same.0 ∙ there) in
     true≢false (sym here ∙ sym c.if-not-contains.ensures))

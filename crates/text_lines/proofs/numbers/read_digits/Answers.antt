@@ -1,8 +1,8 @@
 use Rattle.std.proofs.Common.{true≢false, sym, ◌∙◌, ap, length}
 use Rattle.std.specs.List.{list_any}
 use Rattle.std.specs.Char.{is_ascii_uppercase}
-use Rattle.report_format.proofs.DigitLemmas.{encode-no_upper, bytes-from_all, digits-read, digits-not_read}
-use Rattle.report_format.proofs.fields.read_digits.Goals as goal
+use Rattle.text_lines.proofs.DigitLemmas.{encode-no_upper, bytes-from_all, digits-read, digits-not_read}
+use Rattle.text_lines.proofs.numbers.read_digits.Goals as goal
 
 pub returns-then-has_upper_case-clause-no : goal.returns-then-has_upper_case-clause-no
 returns-then-has_upper_case-clause-no c = λ failed other long low is.

@@ -1,6 +1,6 @@
 use Rattle.std.proofs.Common.{◌≡◌, ◌<◌, ◌^◌, sym, ◌∙◌, arith}
 use Rattle.std.proofs.lemmas.Fmt.{decimal_injective}
-use Rattle.report_format.proofs.forms.parse_number.Goals as goal
+use Rattle.text_lines.proofs.numbers.read_number_between.Goals as goal
 
 pub returns-then-number-least-clause-none : goal.returns-then-number-least-clause-none
 returns-then-number-least-clause-none c = λ none n low high is.

@@ -1,7 +1,7 @@
 use Rattle.std.proofs.Common.{true≢false, sym, ◌∙◌}
 use Rattle.std.proofs.lemmas.Slice.Eq.{starts_is}
 use Rattle.std.proofs.lemmas.Bool.Decides.{Decides-eqb}
-use Rattle.report_format.proofs.fields.after.Goals as goal
+use Rattle.text_lines.proofs.fields.after.Goals as goal
 
 pub returns-then-not-starts_with-clause-none : goal.returns-then-not-starts_with-clause-none
 returns-then-not-starts_with-clause-none c = λ none rest is.

@@ -1,0 +1,4 @@
+pub mod DigitLemmas
+pub mod Cuts
+pub mod LineLemmas
+pub mod FormLaws
