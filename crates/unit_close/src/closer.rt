@@ -1,6 +1,6 @@
 //! The closer.
 
-ghost use Rattle.std.specs.Prelude.{◌≡◌, ◌<◌, ◌↔◌, ◌++◌, ◌∷◌, [], List, Some, true, false, IfOk, IfErr};
+ghost use Rattle.std.specs.Prelude.{◌≡◌, ◌<◌, ◌↔◌, ◌++◌, ◌∷◌, [], List, Some, true, false, length, slice_get, IfOk, IfErr};
 ghost use Rattle.gate_net.specs.declared.literals.Lit.{Lit};
 ghost use Rattle.gate_net.specs.Lits.{negation, AreNamed};
 ghost use Rattle.search_model.specs.Literals.{named};
@@ -137,5 +137,20 @@ impl Closer {
                 Err(e)
             }
         }
+    }
+
+    /// How many clauses were learned, those among them that are no longer watched.
+    pub fn learned_len(&self) -> u64
+        ensures { result ≡ length self.now.learned }
+    {
+        self.learned.len() as u64
+    }
+
+    /// The clause that was learned as number `i`, counted from 0, its literals in the order in which it was handed over.
+    pub fn learned(&self, i: u64) -> &[Lit]
+        requires { i < length self.now.learned }
+        ensures { slice_get self.now.learned i ≡ Some result.now }
+    {
+        self.learned.clause(i as usize)
     }
 }
