@@ -18,7 +18,7 @@ use Rattle.crash_tool.specs.Received.{IsAccepted}
 use Rattle.crash_tool.specs.Call.{Change, Says, OfRight, IsRightBut, IsStatusBut, IsCannotRead, TakesPrefix, Takes, TakesNothing, TakesLine, HasFault, HasNoFault, Gives, IsReceived}
 use Rattle.crash_tool.proofs.AnswerLemmas.{make-outcome}
 
-no_refusal_is_0 : (r : Refusal) → status_of r ≡ 0 → ⊥
+pub no_refusal_is_0 : (r : Refusal) → status_of r ≡ 0 → ⊥
 no_refusal_is_0 NoMemory e = omega arith
 no_refusal_is_0 Usage e = omega arith
 no_refusal_is_0 (CannotRead role) e = omega arith

@@ -1,19 +1,20 @@
 //! The top call: from words and files to a status, a text on out and a line on err.
 
-ghost use Rattle.std.specs.Prelude.{◌≡◌, ◌≢◌, ◌⊎◌, ℕ, ◌≤◌, List, map, length, None, Some, Err, IfSome, IfOk, IfErr};
+ghost use Rattle.std.specs.Prelude.{◌≡◌, ◌≢◌, ◌⊎◌, ℕ, ◌≤◌, List, [], ◌∷◌, ◌++◌, map, length, None, Some, Err, IfSome, IfOk, IfErr};
 ghost use Rattle.std.specs.String.{string_bytes};
 ghost use Rattle.fault_io.specs.Faults.{Rose, NoFault};
 ghost use Rattle.report_format.specs.Text.{Content};
 ghost use Rattle.report_format.specs.Reading.{IsTextOf};
 ghost use Rattle.receiver_replay.specs.Right.{IsRight};
-ghost use Rattle.crash_tool.specs.Refusals.{out_of, err_of, IsLineOf, IsGiven};
-ghost use Rattle.tool_words.specs.Words.{make_of, asked_of, task_of, task_value, AreWithin};
+ghost use Rattle.crash_tool.specs.Refusals.{status, out_of, err_of, IsLineOf, IsGiven};
+ghost use Rattle.tool_words.specs.Words.{make_of, asked_of, task_of, task_value, OnFiles, AreWithin};
 ghost use Rattle.crash_tool.specs.Made.{transcript_under};
 ghost use Rattle.crash_tool.specs.Outcome.{outcome};
 ghost use Rattle.crash_tool.specs.Answers.{IsAnswerTo, ReadsFiles, files_for, IsDone, read_of, limit_of};
 ghost use Rattle.crash_tool.specs.Call.{change, Gives, TakesLine, TakesNothing, Takes, TakesPrefix, HasFault, HasNoFault};
 ghost use Rattle.crash_tool.specs.Call.{OfRight, IsReadFault, IsRightBut, IsReadBut, IsCannotRead, IsStatusBut};
 ghost use Rattle.crash_tool.specs.Call.{IsReceived};
+ghost use Rattle.crash_tool.specs.Requests.{request, AsksFor};
 
 use crate::actions::{answer_of, limit_of, role_of};
 use crate::answer::{Answer, Refusal, Role};
@@ -31,6 +32,8 @@ fn read<F: Folder>(alloc: Global, folder: &mut F, name: &str, role: Role) -> Res
         IsReadBut (read_of role (held name.now)) (Rose (F.faults folder.old) (F.faults folder.new)) result) }
     ensures untold { F.files folder.old ≡ None →
         IfErr result (λ e. IsCannotRead e → Rose (F.faults folder.old) (F.faults folder.new)) }
+    ensures asked { F.asked folder.new ≡ F.asked folder.old ++ request name.now role ∷ [] }
+    ensures refused { IfErr result (λ e. (e ≡ Refusal.NoMemory) ⊎ ((e ≡ Refusal.CannotRead role) ⊎ (e ≡ Refusal.TooLong role))) }
     ensures no_usage { IfErr result (λ e. e ≢ Refusal.Usage) }
     ensures given { IfErr result IsGiven }
     ensures within { IfOk result (λ bytes. length bytes ≤ limit_of role) }
@@ -55,6 +58,8 @@ fn answer_task<F: Folder>(alloc: Global, task: &Task, folder: &mut F) -> Answer
         IsRightBut (IsDone (task_value task.now) held) (Rose (F.faults folder.old) (F.faults folder.new)) result) }
     ensures received { IfSome (F.files folder.old) (IsReceived (task_value task.now) result) }
     ensures untold { F.files folder.old ≡ None → IsReadFault result → Rose (F.faults folder.old) (F.faults folder.new) }
+    ensures asked { AsksFor (Some (OnFiles (task_value task.now))) (F.files folder.old) (Rose (F.faults folder.old) (F.faults folder.new))
+        (F.asked folder.old) (F.asked folder.new) (status result) }
     ensures no_usage { result ≢ Err Refusal.Usage }
     ensures given { IfErr result IsGiven }
 {
@@ -80,6 +85,8 @@ fn decide<F: Folder>(alloc: Global, words: &[String], folder: &mut F) -> Answer
         IfSome (F.files folder.old) (IsReceived task result)) }
     ensures untold { F.files folder.old ≡ None → IsReadFault result → Rose (F.faults folder.old) (F.faults folder.new) }
     ensures reads { IsReadFault result → ReadsFiles (asked_of (map string_bytes words.now)) }
+    ensures asked { AsksFor (asked_of (map string_bytes words.now)) (F.files folder.old) (Rose (F.faults folder.old) (F.faults folder.new))
+        (F.asked folder.old) (F.asked folder.new) (status result) }
     ensures usage { result ≡ Err Refusal.Usage → asked_of (map string_bytes words.now) ≡ None }
     ensures words { asked_of (map string_bytes words.now) ≡ None →
         (result ≡ Err Refusal.Usage) ⊎ (result ≡ Err Refusal.NoMemory) }
@@ -145,6 +152,11 @@ pub fn run_tool<F: Folder, O: Sink, E: Sink>(
         HasNoFault (change O.holds O.faults out.old out.new) → HasNoFault (change E.holds E.faults err.old err.new) →
         OfRight (IsAnswerTo (asked_of (map string_bytes words.now)) held) (λ answer.
         Gives answer (change O.holds O.faults out.old out.new) (change E.holds E.faults err.old err.new) result)) }
+
+    // The folder is asked for the program, and where that is read whole for the second file, each
+    // once and with its limit; and for nothing else.
+    ensures asked { AsksFor (asked_of (map string_bytes words.now)) (F.files folder.old) (Rose (F.faults folder.old) (F.faults folder.new))
+        (F.asked folder.old) (F.asked folder.new) result }
 
     // The folder keeps its files, and no count of faults falls.
     ensures files { F.files folder.new ≡ F.files folder.old }

@@ -2,15 +2,18 @@
 use Rattle.std.specs.Prelude.{◌≡◌, ℕ, zero, suc, ◌+◌, ◌-◌, ◌/◌, ◌^◌, ◌<◌, ◌≤◌, min, Bool, true, false, ◌&&◌, nat_lt, nat_eq, if◌then◌else◌, List, Option}
 use Rattle.std.specs.List.{list_any}
 use Rattle.fault_io.specs.declared.folder.NamedFile.{NamedFile}
+use Rattle.fault_io.specs.Requests.{Request}
 
 -- ---- a folder in memory of which some reads fail
 
--- its files, the most bytes that a read gives, the numbers of the reads that fail, and the number of the last read made
+-- its files, the most bytes that a read gives, the numbers of the reads that fail, the number of the last read made, and what
+-- it was asked for, in order
 pub record FolderState : Type 0 where
   pub files : List NamedFile
   pub piece : ℕ
   pub failing : List ℕ
   pub made : ℕ
+  pub asked : List Request
 
 -- the number of the last read after so many more, which stops at 2^64 - 1
 abbrev pub after_reads : ℕ → ℕ → ℕ

@@ -1,10 +1,12 @@
 //! What a folder of files promises, and the plain one in memory.
 
-ghost use Rattle.std.specs.Prelude.{◌≡◌, ◌≢◌, ℕ, ◌≤◌, Option, None, Some, IfSome, IfOk, option_map};
+ghost use Rattle.std.specs.Prelude.{◌≡◌, ◌≢◌, ℕ, ◌≤◌, List, [], ◌∷◌, ◌++◌, Option, None, Some, IfSome, IfOk, option_map};
 ghost use Rattle.fault_io.specs.Faults.{Rose};
 ghost use Rattle.fault_io.specs.Files.{Files, answer_for, IsWithin, file_of};
+ghost use Rattle.fault_io.specs.Requests.{Request};
 
 use crate::Bytes;
+use crate::requests::Requests;
 use std::alloc::{AllocError, Global};
 use std::marker::Model;
 use thiserror::Error;
@@ -40,7 +42,7 @@ impl From<AllocError> for FetchFault {
     }
 }
 
-/// Files by name, and a count of the reads that failed.
+/// Files by name, a count of the reads that failed, and a list of what was asked for.
 pub trait Folder {
     /// The bytes under each name, where the folder tells.
     ghost files: { Self → Option Files };
@@ -48,13 +50,17 @@ pub trait Folder {
     /// The faults so far. The count stops at 2^64 - 1.
     ghost faults: { Self → ℕ };
 
+    /// What was asked for so far, in order. Proofs alone have the list.
+    ghost asked: { Self → List Request };
+
     /// Fetches the file of this name, where it has at most `limit` bytes.
     ///
-    /// Whatever the answer, the files stay and the count of faults doesn't fall. Want of memory is
-    /// no fault, and may be answered at any call.
+    /// Whatever the answer, the files stay, the count of faults doesn't fall, and this was asked
+    /// for. Want of memory is no fault, and may be answered at any call.
     fn fetch(&mut self, alloc: Global, name: &str, limit: u32) -> Result<Fetched, FetchFault>
         ensures files { files self.new ≡ files self.old }
         ensures counts { faults self.old ≤ faults self.new }
+        ensures asked { asked self.new ≡ asked self.old ++ record { name = name.now; limit = limit } ∷ [] }
 
         // Where the files are told, an answer is the one for what is held under the name.
         ensures told { IfSome (files self.old) (λ held.
@@ -117,32 +123,36 @@ impl FileList {
 #[derive(Debug, Drop)]
 pub struct SteadyFolder {
     files: FileList,
+    asked: Requests,
 }
 
 impl Model for SteadyFolder {
-    ghost use Rattle.std.specs.Prelude.{List};
-    ghost use Rattle.fault_io.specs.declared.folder.NamedFile.{NamedFile};
+    ghost use Rattle.fault_io.specs.Files.{SteadyState};
 
-    ghost Value = { List NamedFile };
+    ghost Value = { SteadyState };
 
-    ghost view = { λ folder. folder.files };
+    ghost view = { λ folder. record { files = folder.files; asked = folder.asked.items } };
 }
 
 impl SteadyFolder {
     /// A folder of these files. Of two files with one name, the first is held.
     pub fn new(files: FileList) -> Self
-        ensures { result ≡ files }
+        ensures { result ≡ record { files = files; asked = [] } }
     {
-        SteadyFolder { files }
+        let asked = Requests::new();
+        SteadyFolder { files, asked }
     }
 }
 
 impl Folder for SteadyFolder {
-    ghost files = { λ folder. Some (file_of folder) };
+    ghost files = { λ folder. Some (file_of folder.files) };
 
     ghost faults = { λ _. 0 };
 
+    ghost asked = { λ folder. folder.asked };
+
     fn fetch(&mut self, alloc: Global, name: &str, limit: u32) -> Result<Fetched, FetchFault> {
+        self.asked.add(name, limit);
         let Some(file) = find_file(self.files.as_slice(), name) else {
             return Ok(Fetched::Missing);
         };

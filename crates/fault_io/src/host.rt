@@ -1,10 +1,12 @@
 //! The system's folder and streams.
 
-ghost use Rattle.std.specs.Prelude.{◌≡◌, ◌≢◌, ◌^◌, ◌<◌, ◌≤◌, None, length, take, IfOk, OnOk, OnErr};
+ghost use Rattle.std.specs.Prelude.{◌≡◌, ◌≢◌, ◌^◌, ◌<◌, ◌≤◌, [], ◌∷◌, ◌++◌, None, length, take, IfOk, OnOk, OnErr};
 ghost use Rattle.std.specs.Io.KnownBytes.{Appends};
 ghost use Rattle.fault_io.specs.Faults.{raised};
 ghost use Rattle.fault_io.specs.Files.{IsWithin};
+ghost use Rattle.fault_io.specs.Sinks.{AppendsPrefix};
 
+use crate::requests::Requests;
 use crate::source::fetch_opened;
 use crate::{Failed, FetchFault, Fetched, Folder, Sink};
 use std::alloc::Global;
@@ -13,44 +15,54 @@ use std::io::Write;
 use std::marker::Model;
 use std::rt::Files;
 
-/// The files of the system, of which nothing is known. A contract sees the count of faults.
+/// The files of the system, of which nothing is known. A contract sees the count of faults, and
+/// what was asked for.
 #[derive(Drop)]
 pub struct HostFolder<R: Files + Drop> {
     rt: R,
     failed: u64,
+    asked: Requests,
 }
 
 impl<R: Files + Drop> Model for HostFolder<R> {
-    ghost use Rattle.std.specs.Prelude.{ℕ};
+    ghost use Rattle.fault_io.specs.Files.{HostState};
 
-    ghost Value = { ℕ };
+    ghost Value = { HostState };
 
-    ghost view = { λ folder. folder.failed };
+    ghost view = { λ folder. record { faults = folder.failed; asked = folder.asked.items } };
 }
 
 impl<R: Files + Drop> HostFolder<R> {
     /// The files that this runtime reaches, with no fault yet.
     pub fn new(rt: R) -> Self
-        ensures { result ≡ 0 }
+        ensures { result ≡ record { faults = 0; asked = [] } }
     {
-        HostFolder { rt, failed: 0 }
+        HostFolder {
+            rt,
+            failed: 0,
+            asked: Requests::new(),
+        }
     }
 }
 
 impl<R: Files + Drop> Folder for HostFolder<R> {
     ghost files = { λ _. None };
 
-    ghost faults = { λ count. count };
+    ghost faults = { λ folder. folder.faults };
+
+    ghost asked = { λ folder. folder.asked };
 
     /// Opens the file and reads it to its end, or until it is longer than `limit`. A file that
     /// can't be opened and a read that fails are one fault.
     fn fetch(&mut self, alloc: Global, name: &str, limit: u32) -> Result<Fetched, FetchFault>
         ensures within { IfOk result (IsWithin limit) }
         ensures untold { result ≢ Ok Fetched.Missing }
-        ensures failed { result ≡ Err FetchFault.Failed → self.new ≡ raised self.old }
-        ensures quiet { result ≢ Err FetchFault.Failed → self.new ≡ self.old }
-        ensures counts { self.old ≤ self.new }
+        ensures failed { result ≡ Err FetchFault.Failed → self.new.faults ≡ raised self.old.faults }
+        ensures quiet { result ≢ Err FetchFault.Failed → self.new.faults ≡ self.old.faults }
+        ensures counts { self.old.faults ≤ self.new.faults }
+        ensures asked { self.new.asked ≡ self.old.asked ++ record { name = name.now; limit = limit } ∷ [] }
     {
+        self.asked.add(name, limit);
         let fetched = fetch_opened(alloc, fs::open(&self.rt, name), limit);
         if let Err(FetchFault::Failed) = &fetched {
             self.failed = self.failed.saturating_add(1);
@@ -91,11 +103,12 @@ impl<W: Write + Drop> Sink for HostSink<W> {
     ghost faults = { λ sink. sink.faults };
 
     /// Writes once and flushes. A write that takes nothing, and a write or a flush that fails, is
-    /// a fault. Where the flush fails, bytes of the piece may stand in the stream all the same.
+    /// a fault. Where the flush fails, the stream has the bytes that it took before it.
     fn put(&mut self, bytes: &[u8]) -> Result<u32, Failed>
         requires not_empty { 0 < length bytes.now }
         requires fits { length bytes.now < 2 ^ 32 }
         ensures written { IfOk result (λ k. Appends self.old.written self.new.written (take k bytes.now)) }
+        ensures part { OnErr result (AppendsPrefix self.old.written self.new.written bytes.now) }
         ensures some { IfOk result (λ k. 0 < k) }
         ensures within { IfOk result (λ k. k ≤ length bytes.now) }
         ensures failed { OnErr result (self.new.faults ≡ raised self.old.faults) }

@@ -1,10 +1,11 @@
 //! A folder in memory that gives its files in pieces, and whose reads fail by number.
 
-ghost use Rattle.std.specs.Prelude.{◌≡◌, ◌≢◌, ◌+◌, ◌<◌, ◌≤◌, true, false, length, None, Some, IfSome, IfOk};
+ghost use Rattle.std.specs.Prelude.{◌≡◌, ◌≢◌, ◌+◌, ◌<◌, ◌≤◌, true, false, [], ◌∷◌, ◌++◌, length, None, Some, IfSome, IfOk};
 ghost use Rattle.fault_io.specs.Files.{answer_for, file_of};
 ghost use Rattle.fault_io.specs.Reads.{after_reads, failed_among, NoneFails, LastFails, reads_for};
 
 use crate::folder::find_file;
+use crate::requests::Requests;
 use crate::{Bytes, FetchFault, Fetched, FileList, Folder};
 use std::alloc::Global;
 use std::marker::Model;
@@ -84,6 +85,7 @@ pub struct MemFolder {
     files: FileList,
     piece: u32,
     reads: Reads,
+    asked: Requests,
 }
 
 impl Model for MemFolder {
@@ -92,7 +94,13 @@ impl Model for MemFolder {
 
     ghost Value = { FolderState };
 
-    ghost view = { λ folder. record { files = folder.files; piece = folder.piece; failing = folder.reads.failing; made = folder.reads.made } };
+    ghost view = { λ folder. record {
+      files = folder.files;
+      piece = folder.piece;
+      failing = folder.reads.failing;
+      made = folder.reads.made;
+      asked = folder.asked.items;
+    } };
 
     ghost invariant = { λ folder. 0 < folder.piece };
 }
@@ -102,13 +110,14 @@ impl MemFolder {
     /// first is held.
     pub fn new(files: FileList, piece: u32, failing: ReadList) -> Self
         requires some { 0 < piece }
-        ensures { result ≡ record { files = files; piece = piece; failing = failing; made = 0 } }
+        ensures { result ≡ record { files = files; piece = piece; failing = failing; made = 0; asked = [] } }
     {
         let reads = Reads { failing, made: 0 };
         MemFolder {
             files,
             piece,
             reads,
+            asked: Requests::new(),
         }
     }
 }
@@ -130,12 +139,15 @@ impl Folder for MemFolder {
 
     ghost faults = { λ folder. failed_among folder.failing folder.made };
 
+    ghost asked = { λ folder. folder.asked };
+
     /// A fetch of a name that isn't held makes no read.
     #[tactic(auto, using(crate::proofs::ReadLemmas::count_same, crate::proofs::ReadLemmas::count_one))]
     fn fetch(&mut self, alloc: Global, name: &str, limit: u32) -> Result<Fetched, FetchFault>
-        ensures kept { self.new ≡ record self.old { made = self.new.made } }
+        ensures kept { self.new ≡ record self.old { made = self.new.made; asked = self.new.asked } }
+        ensures asked { self.new.asked ≡ self.old.asked ++ record { name = name.now; limit = limit } ∷ [] }
         ensures told { IfOk result (λ answer. answer ≡ answer_for (file_of self.old.files name.now) limit) }
-        ensures missing { file_of self.old.files name.now ≡ None → (result ≡ Ok Fetched.Missing) × (self.new ≡ self.old) }
+        ensures missing { file_of self.old.files name.now ≡ None → (result ≡ Ok Fetched.Missing) × (self.new.made ≡ self.old.made) }
 
         // The reads made.
         ensures reads { IfSome (file_of self.old.files name.now) (λ bytes. result ≢ Err FetchFault.Failed →
@@ -154,6 +166,7 @@ impl Folder for MemFolder {
             failed_among self.new.failing self.new.made ≡ failed_among self.old.failing self.old.made }
         ensures counts { failed_among self.old.failing self.old.made ≤ failed_among self.new.failing self.new.made }
     {
+        self.asked.add(name, limit);
         let Some(file) = find_file(self.files.as_slice(), name) else {
             return Ok(Fetched::Missing);
         };

@@ -1,14 +1,14 @@
 //! What a sink of bytes promises, and the one in memory.
 
 ghost use Rattle.std.specs.Prelude.{◌≡◌, ℕ, ◌+◌, ◌^◌, ◌<◌, ◌≤◌, ◌↔◌, List, [], ◌++◌, length, take, min, Option, Some, IfOk, OnErr, IsErr};
-ghost use Rattle.fault_io.specs.Faults.{Rose, raised, after_taking};
+ghost use Rattle.fault_io.specs.Faults.{Rose, raised, after_taking, TookPrefix};
 ghost use Rattle.fault_io.specs.Sinks.{left};
 
 use no_memory::NoMemory;
 use std::alloc::Global;
 use std::marker::Model;
 
-/// A piece of which nothing was taken. The sink counted it as a fault.
+/// A piece that a sink failed to take. The sink counted it as a fault.
 #[derive(Clone, Copy, Debug, PartialEq, Eq)]
 pub struct Failed;
 
@@ -22,14 +22,15 @@ pub trait Sink {
 
     /// Takes the first bytes of the piece, and answers how many: at least one.
     ///
-    /// After `Failed` nothing of the piece was taken.
+    /// After `Failed` the sink holds what it held, or that and a first part of the piece: a stream
+    /// may fail to be flushed after it took bytes. So such a piece isn't put again.
     fn put(&mut self, bytes: &[u8]) -> Result<u32, Failed>
         requires not_empty { 0 < length bytes.now }
         requires fits { length bytes.now < 2 ^ 32 }
         ensures taken { IfOk result (λ k. holds self.new ≡ after_taking (holds self.old) (take k bytes.now)) }
         ensures some { IfOk result (λ k. 0 < k) }
         ensures within { IfOk result (λ k. k ≤ length bytes.now) }
-        ensures nothing { OnErr result (holds self.new ≡ holds self.old) }
+        ensures part { OnErr result (TookPrefix (holds self.old) (holds self.new) bytes.now) }
         ensures cause { OnErr result (Rose (faults self.old) (faults self.new)) }
         ensures counts { faults self.old ≤ faults self.new };
 }
@@ -80,7 +81,7 @@ impl Sink for MemSink {
 
     ghost faults = { λ sink. sink.faults };
 
-    /// Takes what fits. It fails exactly where no room is left.
+    /// Takes what fits. It fails exactly where no room is left, and then takes nothing.
     fn put(&mut self, bytes: &[u8]) -> Result<u32, Failed>
         requires not_empty { 0 < length bytes.now }
         requires fits { length bytes.now < 2 ^ 32 }

@@ -67,7 +67,7 @@ fn a_host_sink_writes_to_its_stream(rt: HostRuntime) {
 
 /// A stream that fails at a write, and one that fails at a flush. How many bytes each takes at once, and whether it flushes.
 #[test]
-fn a_stream_that_fails_takes_nothing(rt: HostRuntime) {
+fn a_stream_that_fails_is_a_fault(rt: HostRuntime) {
     for (most, flushes) in [(0, true), (5000, false)] {
         let mut sink = HostSink::new(Stream { most, flushes });
         assert!(rt; sink.put(b"abc") == Err(Failed));
