@@ -1,11 +1,12 @@
-//! The reply to a call of a program, by its memory and by how much of the input is left: what the machine answers, as a value.
+//! The table of calls: the reply to a call of a program, as a value, by the program's memory and by how much of the input is
+//! left. The machine does what a reply says, and so does its replay.
 //!
 //! Nothing here takes memory, and no call is refused.
 #![tactic(auto)]
 
-ghost use Rattle.std.specs.Prelude.{◌≡◌, ◌≤◌, slice_index};
-ghost use Rattle.rv_machine.specs.Calls.{read_reply, write_reply, break_reply, reply_to as reply_of_call};
-ghost use Rattle.call_replies.specs.Replies.{reply_of, moved, IsOfHeap};
+ghost use Rattle.std.specs.Prelude.{◌≡◌, ℕ, ◌≤◌, slice_index};
+ghost use Rattle.call_replies.specs.Calls.{read_reply, write_reply, break_reply, reply_to};
+ghost use Rattle.call_replies.specs.Replies.{moved, IsWritable, IsOfHeap};
 
 use memory_map::{Heap, Memory};
 
@@ -23,7 +24,7 @@ const NO_SUCH_CALL: u32 = 0xffff_ffda;
 pub enum Reply {
     /// An answer in a0.
     Answers(u32),
-    /// So many bytes of the input are moved to memory, and counted in a0.
+    /// The next so many bytes of the input are moved to the addresses from a1 up, and counted in a0.
     Moves(u32),
     /// The heap's break is moved to an address, which is the answer in a0.
     Breaks(Heap, u32),
@@ -35,7 +36,8 @@ pub enum Reply {
 fn read_reply(memory: &Memory, left: u32, descriptor: u32, address: u32, size: u32) -> Reply
     ensures most { moved result ≤ left }
     ensures heap { IsOfHeap memory.now.heap result }
-    ensures reply { reply_of result ≡ read_reply memory.now.map left descriptor address size }
+    ensures writable { IsWritable memory.now.map address result }
+    ensures reply { result ≡ read_reply memory.now.map left descriptor address size }
 {
     let count = size.min(left);
     if descriptor != 0 {
@@ -51,7 +53,8 @@ fn read_reply(memory: &Memory, left: u32, descriptor: u32, address: u32, size: u
 fn write_reply(memory: &Memory, descriptor: u32, address: u32, size: u32) -> Reply
     ensures most { moved result ≡ 0 }
     ensures heap { IsOfHeap memory.now.heap result }
-    ensures reply { reply_of result ≡ write_reply memory.now.map descriptor address size }
+    ensures writable { (a : ℕ) → IsWritable memory.now.map a result }
+    ensures reply { result ≡ write_reply memory.now.map descriptor address size }
 {
     if descriptor != 1 && descriptor != 2 {
         Reply::Answers(BAD_DESCRIPTOR)
@@ -66,7 +69,8 @@ fn write_reply(memory: &Memory, descriptor: u32, address: u32, size: u32) -> Rep
 fn break_reply(memory: &Memory, address: u32) -> Reply
     ensures most { moved result ≡ 0 }
     ensures heap { IsOfHeap memory.now.heap result }
-    ensures reply { reply_of result ≡ break_reply memory.now.heap address }
+    ensures writable { (a : ℕ) → IsWritable memory.now.map a result }
+    ensures reply { result ≡ break_reply memory.now.heap address }
 {
     match memory.heap() {
         Some(heap) => {
@@ -81,12 +85,13 @@ fn break_reply(memory: &Memory, address: u32) -> Reply
 }
 
 /// The reply to a call, by the values of a7, a0, a1 and a2, with so many bytes left of the input.
-#[tactic(auto, unfolding(rv_machine::specs::Calls::reply_to))]
+#[tactic(auto, unfolding(crate::specs::Calls::reply_to))]
 pub fn reply_to(memory: &Memory, left: u32, call: [u32; 4]) -> Reply
     ensures most { moved result ≤ left }
+    ensures writable { IsWritable memory.now.map (slice_index call 2) result }
     ensures heap { IsOfHeap memory.now.heap result }
-    ensures reply { reply_of result
-        ≡ reply_of_call memory.now.map memory.now.heap left (slice_index call 0) (slice_index call 1) (slice_index call 2) (slice_index call 3) }
+    ensures reply { result
+        ≡ reply_to memory.now.map memory.now.heap left (slice_index call 0) (slice_index call 1) (slice_index call 2) (slice_index call 3) }
 {
     match call[0] {
         63 => read_reply(memory, left, call[1], call[2], call[3]),

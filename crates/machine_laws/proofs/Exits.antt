@@ -3,6 +3,7 @@ use Rattle.std.proofs.Common.{◌≡◌, ℕ, zero, suc, ◌%◌, ◌^◌, ◌+�
 use Rattle.std.proofs.lemmas.Bool.Decides.{nat_tests}
 use Rattle.elf32.specs.Loads.{Program}
 use Rattle.memory_map.specs.Cells.{first_without, read, write, execute, word_at}
+use Rattle.rv_word.specs.Word.{bits}
 use Rattle.rv_decode.specs.Table.{decoded}
 use Rattle.rv_decode.specs.declared.instr.Width.{Width}
 use Rattle.rv_decode.specs.declared.instr.Instr.{Instr}
@@ -10,8 +11,10 @@ use Rattle.rv_decode.specs.declared.instr.Instr.TheVariants.{Lui, Auipc, Jal, Ja
 use Rattle.rv_event.specs.declared.event.End.{End}
 use Rattle.rv_event.specs.declared.event.End.TheVariants as ends
 use Rattle.rv_event.specs.declared.event.TrapKind.TheVariants as traps
-use Rattle.rv_machine.specs.State.{State, Next, Goes, Ends, reg, write_reg, at, following, bits, trap, start}
-use Rattle.rv_machine.specs.Calls.{Reply, Answers, Moves, Breaks, Exits, reply_to}
+use Rattle.call_replies.specs.declared.Reply.{Reply}
+use Rattle.call_replies.specs.declared.Reply.TheVariants.{Answers, Moves, Breaks, Exits}
+use Rattle.call_replies.specs.Calls.{reply_to}
+use Rattle.rv_machine.specs.State.{State, Next, Goes, Ends, reg, write_reg, at, following, trap, start}
 use Rattle.rv_machine.specs.Effects.{jump, exit, taken, size_of, address_of, even, after_load, after_store, after_call, effect, executed, after_fetch, step}
 use Rattle.rv_machine.specs.Trace.{onward, trace_from, transcript_of}
 

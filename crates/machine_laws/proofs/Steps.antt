@@ -4,16 +4,19 @@ use Rattle.std.proofs.lemmas.Bool.Decides.{nat_tests}
 use Rattle.memory_map.specs.Cells.{Map, first_without, read, write, execute, word_at, placed}
 use Rattle.memory_map.specs.declared.heap.Heap.{Heap}
 use Rattle.memory_map.specs.Heaps.{may_break, with_break}
-use Rattle.rv_word.specs.Word.{alu}
-use Rattle.rv_word.proofs.Words.{word_below}
+use Rattle.rv_word.specs.Word.{alu, bits}
+use Rattle.rv_word.proofs.Words.{bits_below}
 use Rattle.rv_decode.specs.Table.{decoded}
 use Rattle.rv_decode.specs.declared.instr.Width.{Width}
 use Rattle.rv_decode.specs.declared.instr.Instr.{Instr}
 use Rattle.rv_decode.specs.declared.instr.Instr.TheVariants.{Lui, Auipc, Jal, Jalr, Branch, Load, Store, AluImm, AluReg, Fence, Ecall, Ebreak}
 use Rattle.rv_event.specs.declared.event.TrapKind.TheVariants as traps
 use Rattle.rv_event.specs.declared.event.End.TheVariants as ends
-use Rattle.rv_machine.specs.State.{State, Goes, Ends, reg, write_reg, at, following, bits, trap}
-use Rattle.rv_machine.specs.Calls.{Reply, Answers, Moves, Breaks, Exits, bad_descriptor, no_such_call, if_none, read_reply, write_reply, break_reply, reply_to}
+use Rattle.call_replies.specs.declared.Reply.{Reply}
+use Rattle.call_replies.specs.declared.Reply.TheVariants.{Answers, Moves, Breaks, Exits}
+use Rattle.call_replies.specs.Replies.{moved}
+use Rattle.call_replies.proofs.Replies.{IsWord, moves_at_most, puts_a_word}
+use Rattle.rv_machine.specs.State.{State, Goes, Ends, reg, write_reg, at, following, trap}
 use Rattle.rv_machine.specs.Effects.{goes_on, jump, exit, taken, loaded, stored, input_bytes, address_of, even, after_load, after_store, after_call, effect, executed, after_fetch, step}
 use Rattle.machine_laws.specs.Kept.{IsState, Keeps, HoldsBytes}
 use Rattle.machine_laws.proofs.Words.{alu_fits}
@@ -104,39 +107,6 @@ store_kept x s width value a (Some fault) h = refl
 
 -- ---- calls
 
--- a reply answers words, and moves no more bytes than are left
-abbrev IsReply : ℕ → Reply → Type 0
-IsReply left (Answers v) = v < 2 ^ 32
-IsReply left (Moves k) = (k < 2 ^ 32) × (k ≤ left)
-IsReply left (Breaks heap a) = a < 2 ^ 32
-IsReply left (Exits code) = Unit {0}
-
-if_none_kept : (left : ℕ) (o : Option ℕ) (reply : Reply) → IsReply left reply → IsReply left (if_none o reply)
-if_none_kept left None reply h = h
-if_none_kept left (Some address) reply h = omega arith
-
-either_kept : (left : ℕ) (t : Bool) (a b : Reply) → IsReply left a → IsReply left b → IsReply left (cond t a b)
-either_kept left true a b h l = h
-either_kept left false a b h l = l
-
-read_kept : (m : Map) (left a0 a1 a2 : ℕ) → a2 < 2 ^ 32 → IsReply left (read_reply m left a0 a1 a2)
-read_kept m left a0 a1 a2 l = either_kept left (a0 == 0) _ (Answers bad_descriptor) (if_none_kept left (first_without write m a1 (min a2 left)) (Moves (min a2 left)) (omega arith, omega arith)) (omega arith)
-
-write_kept : (m : Map) (left a0 a1 a2 : ℕ) → a2 < 2 ^ 32 → IsReply left (write_reply m a0 a1 a2)
-write_kept m left a0 a1 a2 l = either_kept left ((a0 == 1) || (a0 == 2)) _ (Answers bad_descriptor) (if_none_kept left (first_without read m a1 a2) (Answers a2) l) (omega arith)
-
-break_kept : (heap : Option Heap) (left a0 : ℕ) → IfSome heap (λ h. h.brk < 2 ^ 32) → a0 < 2 ^ 32 → IsReply left (break_reply heap a0)
-break_kept None left a0 h l = omega arith
-break_kept (Some heap) left a0 h l = either_kept left (may_break heap a0) (Breaks heap a0) (Answers heap.brk) l h
-
-reply_kept : (m : Map) (heap : Option Heap) (left a7 a0 a1 a2 : ℕ) → IfSome heap (λ h. h.brk < 2 ^ 32) → a0 < 2 ^ 32 → a2 < 2 ^ 32 → IsReply left (reply_to m heap left a7 a0 a1 a2)
-unfolding reply_to
-reply_kept m heap left a7 a0 a1 a2 h k l =
-    either_kept left (a7 == 63) (read_reply m left a0 a1 a2) _ (read_kept m left a0 a1 a2 l)
-    (either_kept left (a7 == 64) (write_reply m a0 a1 a2) _ (write_kept m left a0 a1 a2 l)
-    (either_kept left ((a7 == 93) || (a7 == 94)) (Exits a0) _ tt
-    (either_kept left (a7 == 214) (break_reply heap a0) (Answers no_such_call) (break_kept heap left a0 h k) (omega arith))))
-
 moved_kept : (x : List ℕ) (s : State) (k : ℕ) → Bytes x → k ≤ length x - s.place → IsState x s → IsState x (record s { memory = placed s.memory (reg s 11) (input_bytes x s.place k); place = s.place + k })
 moved_kept x s k b l h =
     let within : s.place ≤ length x = h.place in
@@ -148,29 +118,31 @@ with_heap x s m heap b l h = record { count = h.count; words = h.words; zero_reg
 exit_kept : (x : List ℕ) (pc code : ℕ) → Keeps (IsState x) (exit pc code)
 exit_kept x pc code = elim (nat_lt code 128) as (λ t. Keeps (IsState x) (cond t (Ends (ends.Exit code)) (trap pc traps.Abort code))) [ true ↦ refl | false ↦ refl ]
 
-call_kept : (x : List ℕ) (s : State) (reply : Reply) → Bytes x → IsReply (length x - s.place) reply → IsState x s → Keeps (IsState x) (after_call x s reply)
-call_kept x s (Answers v) b r h = goes_kept x s 10 v r h
-call_kept x s (Moves k) b r h = goes_kept x (record s { memory = placed s.memory (reg s 11) (input_bytes x s.place k); place = s.place + k }) 10 k r.0 (moved_kept x s k b r.1 h)
-call_kept x s (Breaks heap a) b r h =
+call_kept : (x : List ℕ) (s : State) (reply : Reply) → Bytes x → IsWord reply → moved reply ≤ length x - s.place → IsState x s → Keeps (IsState x) (after_call x s reply)
+call_kept x s (Answers v) b r m h = goes_kept x s 10 v r h
+call_kept x s (Moves k) b r m h = goes_kept x (record s { memory = placed s.memory (reg s 11) (input_bytes x s.place k); place = s.place + k }) 10 k r (moved_kept x s k b m h)
+call_kept x s (Breaks heap a) b r m h =
     goes_kept x (record s { memory = with_break s.memory heap.brk a; heap = Some (record { start = heap.start; brk = a }) }) 10 a r
     (with_heap x s (with_break s.memory heap.brk a) (record { start = heap.start; brk = a }) (break_bytes s.memory heap.brk a h.memory) r h)
-call_kept x s (Exits code) b r h = exit_kept x s.pc code
+call_kept x s (Exits code) b r m h = exit_kept x s.pc code
 
 -- ---- instructions
 
 effect_kept : (x : List ℕ) (s : State) (w : ℕ) (i : Instr) → Bytes x → IsState x s → Keeps (IsState x) (effect x s w i).next
 unfolding effect
-effect_kept x s w (Lui rd imm) b h = goes_kept x s rd (bits imm) (word_below imm) h
+effect_kept x s w (Lui rd imm) b h = goes_kept x s rd (bits imm) (bits_below imm) h
 effect_kept x s w (Auipc rd imm) b h = goes_kept x s rd ((s.pc + bits imm) % 2 ^ 32) (mod_fits (s.pc + bits imm)) h
 effect_kept x s w (Jal rd offset) b h = jump_kept x s.pc ((s.pc + bits offset) % 2 ^ 32) (write_reg rd (following s.pc) s) (mod_fits (s.pc + bits offset)) (register_kept x rd (following s.pc) s (next_fits s.pc) h)
 effect_kept x s w (Jalr rd rs1 imm) b h = jump_kept x s.pc (even (address_of s rs1 (bits imm))) (write_reg rd (following s.pc) s) (even_fits (address_of s rs1 (bits imm)) (mod_fits (reg s rs1 + bits imm))) (register_kept x rd (following s.pc) s (next_fits s.pc) h)
 effect_kept x s w (Branch c rs1 rs2 offset) b h = branch_kept x s (taken c (reg s rs1) (reg s rs2)) ((s.pc + bits offset) % 2 ^ 32) (mod_fits (s.pc + bits offset)) h
 effect_kept x s w (Load width rd rs1 imm) b h = load_kept x s width rd (address_of s rs1 (bits imm)) _ h
 effect_kept x s w (Store width rs1 rs2 imm) b h = store_kept x s width (reg s rs2) (address_of s rs1 (bits imm)) _ h
-effect_kept x s w (AluImm op rd rs1 imm) b h = goes_kept x s rd (alu op (reg s rs1) (bits imm)) (alu_fits op _ _ (h.words rs1) (word_below imm)) h
+effect_kept x s w (AluImm op rd rs1 imm) b h = goes_kept x s rd (alu op (reg s rs1) (bits imm)) (alu_fits op _ _ (h.words rs1) (bits_below imm)) h
 effect_kept x s w (AluReg op rd rs1 rs2) b h = goes_kept x s rd (alu op (reg s rs1) (reg s rs2)) (alu_fits op _ _ (h.words rs1) (h.words rs2)) h
 effect_kept x s w (Fence word) b h = onward_kept x s s h h
-effect_kept x s w Ecall b h = call_kept x s _ b (reply_kept s.memory s.heap (length x - s.place) (reg s 17) (reg s 10) (reg s 11) (reg s 12) h.heap (h.words 10) (h.words 12)) h
+effect_kept x s w Ecall b h =
+    call_kept x s _ b (puts_a_word s.memory s.heap (length x - s.place) (reg s 17) (reg s 10) (reg s 11) (reg s 12) h.heap (h.words 10) (h.words 12))
+    (moves_at_most s.memory s.heap (length x - s.place) (reg s 17) (reg s 10) (reg s 11) (reg s 12)) h
 effect_kept x s w Ebreak b h = refl
 
 executed_kept : (x : List ℕ) (s : State) (w : ℕ) (o : Option Instr) → Bytes x → IsState x s → Keeps (IsState x) (executed x s w o).next

@@ -8,11 +8,8 @@ use Rattle.std.proofs.Math.Nat.{div-le_self, mod-le, div-lt_iff_lt-mul}
 use Rattle.rv_decode.specs.Fields.{sign_extended}
 use Rattle.rv_word.specs.declared.AluOp.{AluOp}
 use Rattle.rv_word.specs.declared.AluOp.TheVariants.{Add, Sub, Sll, Slt, Sltu, Xor, Srl, Sra, Or, And, Mul, Mulh, Mulhsu, Mulhu, Div, Divu, Rem, Remu}
-use Rattle.rv_word.specs.Word.{alu, word}
-
-pub word_fits : (z : ℤ) → word z < 2 ^ 32
-word_fits (pos n) = omega arith
-word_fits (negsuc n) = omega arith
+use Rattle.rv_word.specs.Word.{alu}
+use Rattle.rv_word.proofs.Words.{bits_below}
 
 pub pos_fits : (n : ℕ) → n < 2 ^ 32 → cast_unsigned w32 (pos n) < 2 ^ 32
 pos_fits n h = omega (arith, ints)
@@ -52,14 +49,14 @@ alu_fits Slt a b h l = bool_fits _
 alu_fits Sltu a b h l = bool_fits _
 alu_fits Xor a b h l = xor_lt 32 a b h l
 alu_fits Srl a b h l = below a _ h
-alu_fits Sra a b h l = word_fits _
+alu_fits Sra a b h l = bits_below _
 alu_fits Or a b h l = or_lt 32 a b h l
 alu_fits And a b h l = and_lt 32 a b h l
 alu_fits Mul a b h l = omega arith
-alu_fits Mulh a b h l = word_fits _
-alu_fits Mulhsu a b h l = word_fits _
+alu_fits Mulh a b h l = bits_below _
+alu_fits Mulhsu a b h l = bits_below _
 alu_fits Mulhu a b h l = upper a b h l
-alu_fits Div a b h l = either (b == 0) _ _ (omega arith) (word_fits _)
+alu_fits Div a b h l = either (b == 0) _ _ (omega arith) (bits_below _)
 alu_fits Divu a b h l = either (b == 0) _ _ (omega arith) (below a b h)
-alu_fits Rem a b h l = either (b == 0) _ _ h (word_fits _)
+alu_fits Rem a b h l = either (b == 0) _ _ h (bits_below _)
 alu_fits Remu a b h l = either (b == 0) _ _ h (rest a b h l)

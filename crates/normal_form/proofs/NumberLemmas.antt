@@ -7,7 +7,7 @@ use Rattle.std.specs.Int.Bits.{xor_assoc, xor_self, xor_zero_l, xor_zero_r, and_
 use Rattle.std.proofs.Math.IntN.{*ℤ_comm, *ℤ-zero}
 use Rattle.std.proofs.Math.Nat.{mul_assoc, div-one, zero-div}
 use Rattle.std.specs.Int.{int_shr}
-use Rattle.rv_word.specs.Word.{word, signed, byte_of}
+use Rattle.rv_word.specs.Word.{bits, signed, byte_of}
 use Rattle.term_model.proofs.ZeroLemmas.{byte_and, byte_shr}
 
 -- a test, with what it tells
@@ -30,8 +30,8 @@ signed_is : (n : ℕ) → n < 2 ^ 32 → ((signed n ≡ pos n) × (n < 2 ^ 31)) 
 signed_is n l =
     told (nat_lt n (2 ^ 31)) (λ t. inl (rw t refl, grind (arith, nat_tests))) (λ t. inr (2 ^ 32 - suc n, rw t refl, omega arith))
 
-pub word_signed : (n : ℕ) → n < 2 ^ 32 → word (signed n) ≡ n
-word_signed n l = elim (signed_is n l) [
+pub bits_signed : (n : ℕ) → n < 2 ^ 32 → bits (signed n) ≡ n
+bits_signed n l = elim (signed_is n l) [
   | inl h ↦ rw h.0 (omega arith)
   | inr h ↦ rw h.1 (omega (arith, h.2))
 ]
@@ -40,35 +40,35 @@ shift_by_none : (z : ℤ) → int_shr z 0 ≡ z
 shift_by_none (pos a) = ap pos (div-one a)
 shift_by_none (negsuc a) = ap negsuc (div-one a)
 
-pub sra_zero : (n : ℕ) → n < 2 ^ 32 → word (int_shr (signed n) 0) ≡ n
-sra_zero n l = ap word (shift_by_none (signed n)) ∙ word_signed n l
+pub sra_zero : (n : ℕ) → n < 2 ^ 32 → bits (int_shr (signed n) 0) ≡ n
+sra_zero n l = ap bits (shift_by_none (signed n)) ∙ bits_signed n l
 
 divided_by_one : (z : ℤ) → int_div z (pos 1) ≡ z
 divided_by_one (pos a) = ap pos (div-one a)
 divided_by_one (negsuc a) = ap (λ n. neg_ℤ (pos n)) (div-one (suc a))
 
-pub div_one : (n : ℕ) → n < 2 ^ 32 → word (int_div (signed n) (pos 1)) ≡ n
-div_one n l = ap word (divided_by_one (signed n)) ∙ word_signed n l
+pub div_one : (n : ℕ) → n < 2 ^ 32 → bits (int_div (signed n) (pos 1)) ≡ n
+div_one n l = ap bits (divided_by_one (signed n)) ∙ bits_signed n l
 
 left_by_one : (z : ℤ) → int_rem z (pos 1) ≡ pos 0
 left_by_one (pos a) = ap pos (let e : a % 1 ≡ 0 = omega arith in e)
 left_by_one (negsuc a) = ap (λ n. neg_ℤ (pos n)) (let e : suc a % 1 ≡ 0 = omega arith in e)
 
-pub rem_one : (n : ℕ) → word (int_rem (signed n) (pos 1)) ≡ 0
-rem_one n = ap word (left_by_one (signed n))
+pub rem_one : (n : ℕ) → bits (int_rem (signed n) (pos 1)) ≡ 0
+rem_one n = ap bits (left_by_one (signed n))
 
 pub not_less_than_itself : (z : ℤ) → int_lt z z ≡ false
 not_less_than_itself (pos a) = grind (arith, nat_tests)
 not_less_than_itself (negsuc a) = grind (arith, nat_tests)
 
-pub mulh_comm : (m n : ℕ) → word (int_shr (signed m *ℤ signed n) 32) ≡ word (int_shr (signed n *ℤ signed m) 32)
-mulh_comm m n = ap (λ z. word (int_shr z 32)) (*ℤ_comm (signed m) (signed n))
+pub mulh_comm : (m n : ℕ) → bits (int_shr (signed m *ℤ signed n) 32) ≡ bits (int_shr (signed n *ℤ signed m) 32)
+mulh_comm m n = ap (λ z. bits (int_shr z 32)) (*ℤ_comm (signed m) (signed n))
 
-pub mulh_zero : (z : ℤ) → word (int_shr (z *ℤ pos 0) 32) ≡ 0
-mulh_zero z = ap (λ x. word (int_shr x 32)) (*ℤ-zero z)
+pub mulh_zero : (z : ℤ) → bits (int_shr (z *ℤ pos 0) 32) ≡ 0
+mulh_zero z = ap (λ x. bits (int_shr x 32)) (*ℤ-zero z)
 
-pub mulhsu_zero : (n : ℕ) → word (int_shr (pos 0 *ℤ pos n) 32) ≡ 0
-mulhsu_zero n = ap (λ x. word (int_shr x 32)) (*ℤ_comm (pos 0) (pos n) ∙ *ℤ-zero (pos n))
+pub mulhsu_zero : (n : ℕ) → bits (int_shr (pos 0 *ℤ pos n) 32) ≡ 0
+mulhsu_zero n = ap (λ x. bits (int_shr x 32)) (*ℤ_comm (pos 0) (pos n) ∙ *ℤ-zero (pos n))
 
 -- ---- bitwise
 
@@ -147,12 +147,12 @@ byte_of_not (suc (suc (suc zero))) n l h = omega arith
 byte_of_not (suc (suc (suc (suc k)))) n l h = absurd (omega arith)
 
 -- a byte of a word shifted right with its sign
-pub byte_sra : (k j n : ℕ) → n < 2 ^ 32 → k + j < 4 → byte_of k (word (int_shr (signed n) (8 * j))) ≡ byte_of (k + j) n
+pub byte_sra : (k j n : ℕ) → n < 2 ^ 32 → k + j < 4 → byte_of k (bits (int_shr (signed n) (8 * j))) ≡ byte_of (k + j) n
 byte_sra k j n l h = elim (signed_is n l) [
   | inl s ↦
       let small : n / 2 ^ (8 * j) < 2 ^ 32 = omega (arith, shr_le n (8 * j)) in
       let whole : (n / 2 ^ (8 * j)) % 2 ^ 32 ≡ n / 2 ^ (8 * j) = omega arith in
-      ap (λ z. byte_of k (word (int_shr z (8 * j)))) s.0 ∙ ap (byte_of k) whole ∙ byte_shr k j n
+      ap (λ z. byte_of k (bits (int_shr z (8 * j)))) s.0 ∙ ap (byte_of k) whole ∙ byte_shr k j n
   | inr s ↦
       let m : ℕ = s.0 in
       let least : m < 2 ^ 32 = omega (arith, s.2) in
@@ -160,7 +160,7 @@ byte_sra k j n l h = elim (signed_is n l) [
       let small : q < 2 ^ 32 = omega (arith, shr_le m (8 * j)) in
       let whole : 2 ^ 32 - 1 - q % 2 ^ 32 ≡ 2 ^ 32 - 1 - q = omega arith in
       let turned : n ≡ 2 ^ 32 - 1 - m = omega (arith, s.2) in
-      ap (λ z. byte_of k (word (int_shr z (8 * j)))) s.1 ∙ ap (byte_of k) whole
+      ap (λ z. byte_of k (bits (int_shr z (8 * j)))) s.1 ∙ ap (byte_of k) whole
       ∙ omega (arith, byte_of_not k q (omega arith) small, byte_of_not (k + j) m h least, byte_shr k j m)
       ∙ ap (byte_of (k + j)) (sym turned)
 ]

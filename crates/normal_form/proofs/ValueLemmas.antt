@@ -6,7 +6,7 @@ use Rattle.std.specs.Int.Bits.{xor_assoc, xor_self, xor_zero_l, xor_zero_r, or_z
 use Rattle.std.proofs.Math.Nat.{mul_comm, add_comm}
 use Rattle.std.specs.Prelude.{IfSome}
 use Rattle.std.specs.Int.{from_bool, int_shr}
-use Rattle.rv_word.specs.Word.{alu, word, signed}
+use Rattle.rv_word.specs.Word.{alu, bits, signed}
 use Rattle.rv_word.specs.declared.AluOp.TheVariants.{Add, Sub, Sll, Slt, Sltu, Xor, Srl, Sra, Or, And, Mul, Mulh, Mulhsu, Mulhu, Div, Divu, Rem, Remu}
 use Rattle.term_model.specs.declared.Op.{Op}
 use Rattle.term_model.specs.declared.Op.TheVariants.{Alu, Eq, Byte, Pair, Half}
@@ -101,7 +101,7 @@ module _ (input : List ℕ) (bytes : AreBytes input) where
   reduced : (op : Op) (m c : ℕ) → is_shift op ≡ true → op_value op m (c % 32) ≡ op_value op m c
   reduced (Alu Sll) m c e = ap (λ k. m * 2 ^ k % 2 ^ 32) (let s : c % 32 % 32 ≡ c % 32 = omega arith in s)
   reduced (Alu Srl) m c e = ap (λ k. m / 2 ^ k) (let s : c % 32 % 32 ≡ c % 32 = omega arith in s)
-  reduced (Alu Sra) m c e = ap (λ k. word (int_shr (signed m) k)) (let s : c % 32 % 32 ≡ c % 32 = omega arith in s)
+  reduced (Alu Sra) m c e = ap (λ k. bits (int_shr (signed m) k)) (let s : c % 32 % 32 ≡ c % 32 = omega arith in s)
   reduced op m c e = cc
 
   pub reduce_shift_amount_keeps : (op : Op) (a b : Tree) → AreSound op a b → IfSome (reduce_shift_amount op a b) (Keeps op a b)
@@ -150,7 +150,7 @@ module _ (input : List ℕ) (bytes : AreBytes input) where
   absorb_zero_keeps (Alu Mulhsu) a b g =
       when (Keeps (Alu Mulhsu) a b) (is_zero a || is_zero b) (Is (Const 0))
       (λ h. elim (some (is_zero a) (is_zero b) h) [
-        | inl z ↦ sym (mulhsu_zero (val b input)) ∙ ap (λ n. word (int_shr (signed n *ℤ pos (val b input)) 32)) (sym (is_zero_value a input z))
+        | inl z ↦ sym (mulhsu_zero (val b input)) ∙ ap (λ n. bits (int_shr (signed n *ℤ pos (val b input)) 32)) (sym (is_zero_value a input z))
         | inr z ↦ absorbed_by (Alu Mulhsu) a b refl z
       ])
   absorb_zero_keeps op a b g =
@@ -445,13 +445,13 @@ module _ (input : List ℕ) (bytes : AreBytes input) where
       let whole : c / 8 ≡ j = omega arith in
       rw (amount, whole) (byte_at (k + j) m (omega arith) ∙ sym (byte_at k (m / 2 ^ (8 * j)) l ∙ byte_shr k j m))
 
-  right_shifted_signed : (c k m : ℕ) → m < 2 ^ 32 → is_byte_shift c ≡ true → k < 4 → k + c / 8 ≤ 3 → byte_of ((k + c / 8) % 4) m ≡ byte_of (k % 4) (word (int_shr (signed m) (c % 32)))
+  right_shifted_signed : (c k m : ℕ) → m < 2 ^ 32 → is_byte_shift c ≡ true → k < 4 → k + c / 8 ≤ 3 → byte_of ((k + c / 8) % 4) m ≡ byte_of (k % 4) (bits (int_shr (signed m) (c % 32)))
   right_shifted_signed c k m f e l h =
       let w = whole_bytes c e in
       let j : ℕ = w.0 in
       let amount : c % 32 ≡ 8 * j = omega arith in
       let whole : c / 8 ≡ j = omega arith in
-      rw (amount, whole) (byte_at (k + j) m (omega arith) ∙ sym (byte_at k (word (int_shr (signed m) (8 * j))) l ∙ byte_sra k j m f (omega arith)))
+      rw (amount, whole) (byte_at (k + j) m (omega arith) ∙ sym (byte_at k (bits (int_shr (signed m) (8 * j))) l ∙ byte_sra k j m f (omega arith)))
 
   pub byte_of_right_shift_keeps : (op : Op) (a b : Tree) → AreSound op a b → IfSome (byte_of_right_shift op a b) (Keeps op a b)
   byte_of_right_shift_keeps Byte (Apply (Alu Srl) x (Const c)) (Const k) g =

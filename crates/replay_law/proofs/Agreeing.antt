@@ -13,8 +13,9 @@ use Rattle.memory_map.specs.Cells.{Map, Cell, can, read, write, first_without, b
 use Rattle.memory_map.specs.declared.heap.Heap.{Heap}
 use Rattle.memory_map.specs.Heaps.{heap_cell, with_break, is_in_span}
 use Rattle.memory_map.proofs.Heaps.{get-with_break}
+use Rattle.call_replies.specs.Calls.{reply_to}
+use Rattle.call_replies.proofs.Replies.{rests_on_rights}
 use Rattle.rv_machine.specs.State.{State, reg, written}
-use Rattle.rv_machine.specs.Calls.{Answers, Moves, Exits, if_none, break_reply, reply_to}
 use Rattle.replay_law.specs.Terms.{SymbolicState, reg_term, written_term, with_tree, put_trees, zero_between}
 use Rattle.replay_law.proofs.Agreement.{cell_with, Agrees}
 
@@ -46,19 +47,9 @@ first_same m k h right zero a = refl
 first_same m k h right (suc n) a =
     (λ i. if h.here right a i then first_same m k h right n (next_address a) i else Some a)
 
--- a reply by such faults
-reply_to_same : (m k : Map) → HaveSameRights m k → (heap : Option Heap) (left a7 a0 a1 a2 : ℕ) → reply_to m heap left a7 a0 a1 a2 ≡ reply_to k heap left a7 a0 a1 a2
-unfolding reply_to
-reply_to_same m k h heap left a7 a0 a1 a2 =
-    (λ i. if a7 == 63 then (if a0 == 0 then if_none (first_same m k h write (min a2 left) a1 i) (Moves (min a2 left)) else Answers (2 ^ 32 - 9))
-    else if a7 == 64 then (if (a0 == 1) || (a0 == 2) then if_none (first_same m k h read a2 a1 i) (Answers a2) else Answers (2 ^ 32 - 9))
-    else if (a7 == 93) || (a7 == 94) then Exits a0
-    else if a7 == 214 then break_reply heap a0
-    else Answers (2 ^ 32 - 38))
-
 -- the replies to a call are the same
 pub reply_same : {m k : Map} → HaveSameRights m k → (heap : Option Heap) (left a7 a0 a1 a2 : ℕ) → reply_to m heap left a7 a0 a1 a2 ≡ reply_to k heap left a7 a0 a1 a2
-reply_same {m} {k} h heap left a7 a0 a1 a2 = reply_to_same m k h heap left a7 a0 a1 a2
+reply_same {m} {k} h heap left a7 a0 a1 a2 = rests_on_rights m k (first_same m k h) heap left a7 a0 a1 a2
 
 -- ---- addresses that may be used
 

@@ -1,14 +1,17 @@
 -- The program counter stays a multiple of 4.
 use Rattle.std.proofs.Common.{◌≡◌, ℕ, ◌+◌, ◌%◌, ◌^◌, List, Option, Some, None, Bool, true, false, if◌then◌else◌, refl, arith, ◌==◌, length, ◌-◌}
 use Rattle.std.proofs.lemmas.Bool.{eqb-true}
+use Rattle.rv_word.specs.Word.{bits}
 use Rattle.rv_event.specs.declared.event.TrapKind.TheVariants as traps
 use Rattle.rv_decode.specs.Table.{decoded}
 use Rattle.rv_decode.specs.declared.instr.Instr.{Instr}
 use Rattle.rv_decode.specs.declared.instr.Instr.TheVariants.{Lui, Auipc, Jal, Jalr, Branch, Load, Store, AluImm, AluReg, Fence, Ecall, Ebreak}
 use Rattle.rv_decode.specs.declared.instr.Width.{Width}
 use Rattle.memory_map.specs.Cells.{execute, read, write, first_without, word_at}
-use Rattle.rv_machine.specs.State.{State, Goes, reg, write_reg, at, following, bits, trap}
-use Rattle.rv_machine.specs.Calls.{Reply, Answers, Moves, Breaks, Exits, reply_to}
+use Rattle.call_replies.specs.declared.Reply.{Reply}
+use Rattle.call_replies.specs.declared.Reply.TheVariants.{Answers, Moves, Breaks, Exits}
+use Rattle.call_replies.specs.Calls.{reply_to}
+use Rattle.rv_machine.specs.State.{State, Goes, reg, write_reg, at, following, trap}
 use Rattle.rv_machine.specs.Effects.{even, jump, taken, size_of, after_load, after_store, after_call, address_of, executed, after_fetch, step, effect}
 use Rattle.replay_law.proofs.Stepping.{OnGoes, exit_goes}
 

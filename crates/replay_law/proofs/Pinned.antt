@@ -3,6 +3,7 @@ use Rattle.std.proofs.Common.{◌≡◌, nat_lt, ℕ, ◌+◌, ◌-◌, ◌%◌,
 use Rattle.std.proofs.lemmas.Bool.{eq-eqb}
 use Rattle.rv_event.specs.declared.event.End.TheVariants as ends
 use Rattle.rv_event.specs.declared.event.TrapKind.{TrapKind}
+use Rattle.rv_word.specs.Word.{bits}
 use Rattle.rv_event.specs.declared.event.TrapKind.TheVariants as traps
 use Rattle.rv_event.specs.declared.event.EventKind.TheVariants as kinds
 use Rattle.rv_event.specs.declared.event.EventKind.{EventKind}
@@ -10,8 +11,10 @@ use Rattle.rv_decode.specs.declared.instr.Instr.{Instr}
 use Rattle.rv_decode.specs.declared.instr.Instr.TheVariants.{Lui, Auipc, Jal, Jalr, Branch, Load, Store, AluImm, AluReg, Fence, Ecall, Ebreak}
 use Rattle.rv_decode.specs.declared.instr.Width.{Width}
 use Rattle.memory_map.specs.Cells.{read, write, first_without}
-use Rattle.rv_machine.specs.State.{State, Next, Goes, Ends, StepResult, reg, write_reg, at, following, bits, trap, no_call, event_of}
-use Rattle.rv_machine.specs.Calls.{Reply, Answers, Moves, Breaks, Exits, reply_to}
+use Rattle.call_replies.specs.declared.Reply.{Reply}
+use Rattle.call_replies.specs.declared.Reply.TheVariants.{Answers, Moves, Breaks, Exits}
+use Rattle.call_replies.specs.Calls.{reply_to}
+use Rattle.rv_machine.specs.State.{State, Next, Goes, Ends, StepResult, reg, write_reg, at, following, trap, no_call, event_of}
 use Rattle.rv_machine.specs.Effects.{even, jump, exit, taken, size_of, after_load, after_store, after_call, address_of, effect}
 use Rattle.replay_law.proofs.Agreeing.{HaveSameRights, first_same, reply_same}
 

@@ -7,6 +7,8 @@ use Rattle.rv_event.specs.declared.event.Event.{Event}
 use Rattle.rv_event.specs.declared.event.EventKind.{EventKind}
 use Rattle.rv_event.specs.declared.event.EventKind.TheVariants as kinds
 use Rattle.rv_word.specs.declared.AluOp.TheVariants.{Add, And, Slt, Sltu, Sll, Sra}
+use Rattle.rv_word.specs.Word.{bits}
+use Rattle.rv_word.proofs.Words.{bits_below}
 use Rattle.rv_decode.specs.Table.{decoded}
 use Rattle.rv_decode.specs.declared.instr.Cond.{Cond}
 use Rattle.rv_decode.specs.declared.instr.Cond.TheVariants as conds
@@ -23,15 +25,18 @@ use Rattle.memory_map.specs.Cells.{Map, next_address, first_without, read, write
 use Rattle.elf32.specs.declared.segments.Segment.{Segment}
 use Rattle.memory_map.specs.declared.heap.Heap.{Heap}
 use Rattle.memory_map.specs.Heaps.{may_break, with_break}
-use Rattle.rv_machine.specs.State.{bits, following, start_registers}
-use Rattle.rv_machine.specs.Calls.{Reply, Answers, Moves, Breaks, Exits, if_none, break_reply, reply_to}
+use Rattle.call_replies.specs.declared.Reply.{Reply}
+use Rattle.call_replies.specs.declared.Reply.TheVariants.{Answers, Moves, Breaks, Exits}
+use Rattle.call_replies.specs.Calls.{reply_to}
+use Rattle.call_replies.specs.Replies.{moved}
+use Rattle.call_replies.proofs.Replies.{moves_at_most}
+use Rattle.rv_machine.specs.State.{following, start_registers}
 use Rattle.replay_law.specs.Making.{Making, IsMaker, IsConstant, IsTruthOrConstant, IsCarefulMaker}
 use Rattle.replay_law.specs.Forms.{byte_term, equal, bytes_are, difference, pin, target_bytes, target, fails, branch_conditions, with_condition, with_conditions}
 use Rattle.replay_law.specs.Terms.{SymbolicState, reg_term, put_reg, put_trees, zero_between, input_terms, extended_term, half_term, loaded_term, stored_terms, sum_term, call_value, after_reply, after_row, after_instr, terms_after, start_terms}
 use Rattle.replay_law.specs.Follow.{fetched_byte, fetch_conditions, row_conditions, instr_conditions, conditions_by, event_conditions}
 use Rattle.replay_law.proofs.Held.{byte_made, byte_below}
 use Rattle.replay_law.proofs.Agreeing.{Each, written_keeps, put_keeps, zero_keeps}
-use Rattle.replay_law.proofs.Stepping.{bits_below}
 use Rattle.replay_law.proofs.Agreement.{AreMade}
 use Rattle.term_model.specs.Places.{ReadsBelow}
 use Rattle.term_model.specs.Conditions.{Hold}
@@ -215,39 +220,8 @@ unfolding input_terms
 inputs_within n place zero h = tt
 inputs_within n place (suc k) h = (omega arith, inputs_within n (suc place) k (omega arith))
 
--- a read moves no more bytes than are left
-abbrev IsLeft : ℕ → Reply → Type 0
-IsLeft left (Answers v) = Unit {0}
-IsLeft left (Moves k) = k ≤ left
-IsLeft left (Breaks h a) = Unit {0}
-IsLeft left (Exits code) = Unit {0}
-
--- a reply that moves no more than is left still does where an address lacks a right
-none_left : (left : ℕ) (o : Option ℕ) (r : Reply) → IsLeft left r → IsLeft left (if_none o r)
-none_left left None r h = h
-none_left left (Some a) r h = tt
-
--- either of two such replies
-either_left : (left : ℕ) (b : Bool) (p q : Reply) → IsLeft left p → IsLeft left q → IsLeft left (if b then p else q)
-either_left left true p q h k = h
-either_left left false p q h k = k
-
--- the reply to brk
-break_left : (heap : Option Heap) (left a0 : ℕ) → IsLeft left (break_reply heap a0)
-break_left None left a0 = tt
-break_left (Some h) left a0 = either_left left (may_break h a0) (Breaks h a0) (Answers h.brk) tt tt
-
--- the reply to a call
-reply_left : (m : Map) (heap : Option Heap) (left a7 a0 a1 a2 : ℕ) → IsLeft left (reply_to m heap left a7 a0 a1 a2)
-unfolding reply_to
-reply_left m heap left a7 a0 a1 a2 =
-    either_left left (a7 == 63) _ _ (either_left left (a0 == 0) _ (Answers (2 ^ 32 - 9)) (none_left left (first_without write m a1 (min a2 left)) (Moves (min a2 left)) (omega arith)) tt)
-    (either_left left (a7 == 64) _ _ (either_left left ((a0 == 1) || (a0 == 2)) _ (Answers (2 ^ 32 - 9)) (none_left left (first_without read m a1 a2) (Answers a2) tt) tt)
-    (either_left left ((a7 == 93) || (a7 == 94)) (Exits a0) _ tt
-    (either_left left (a7 == 214) (break_reply heap a0) (Answers (2 ^ 32 - 38)) (break_left heap left a0) tt)))
-
 -- the terms after a call
-reply_within : {n : ℕ} {s : SymbolicState} → ReadWithin n s → (e : Event) (r : Reply) → IsLeft (n - s.place) r → ReadWithin n (after_reply s e r)
+reply_within : {n : ℕ} {s : SymbolicState} → ReadWithin n s → (e : Event) (r : Reply) → moved r ≤ n - s.place → ReadWithin n (after_reply s e r)
 reply_within h e (Answers v) l = put_within h 10 (Const v) tt
 reply_within {n} {s} h e (Moves k) l =
     let place : s.place ≤ n = h.place in
@@ -294,7 +268,7 @@ row_within {made} c n s h e i = by_row i
     by_row (AluImm op rd rs1 imm) = put_within h rd (made (Alu op) (reg_term s rs1) (Const (bits imm))) (c.places n (Alu op) (reg_term s rs1) (Const (bits imm)) (h.registers rs1) tt)
     by_row (AluReg op rd rs1 rs2) = put_within h rd (made (Alu op) (reg_term s rs1) (reg_term s rs2)) (c.places n (Alu op) (reg_term s rs1) (reg_term s rs2) (h.registers rs1) (h.registers rs2))
     by_row (Fence word) = h
-    by_row Ecall = reply_within h e (reply_to s.cells s.heap (n - s.place) (call_value e 0) (call_value e 1) (call_value e 2) (call_value e 3)) (reply_left s.cells s.heap (n - s.place) (call_value e 0) (call_value e 1) (call_value e 2) (call_value e 3))
+    by_row Ecall = reply_within h e (reply_to s.cells s.heap (n - s.place) (call_value e 0) (call_value e 1) (call_value e 2) (call_value e 3)) (moves_at_most s.cells s.heap (n - s.place) (call_value e 0) (call_value e 1) (call_value e 2) (call_value e 3))
     by_row Ebreak = h
 
 -- the terms after a word that may be illegal

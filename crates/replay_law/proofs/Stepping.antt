@@ -1,7 +1,8 @@
 -- A step of a plain state that agrees with terms leaves one that agrees with the terms after its event.
-use Rattle.std.proofs.Common.{◌≡◌, ℕ, ◌+◌, ◌-◌, ◌%◌, ◌^◌, ◌<◌, ℤ, pos, negsuc, List, length, map, min, Option, Some, None, IfSome, nat_lt, Bool, true, false, if◌then◌else◌, refl, sym, ap, ◌∙◌, arith, subst, ◌==◌, ◌||◌}
+use Rattle.std.proofs.Common.{◌≡◌, ℕ, ◌+◌, ◌-◌, ◌%◌, ◌^◌, ◌<◌, List, length, map, min, Option, Some, None, IfSome, nat_lt, Bool, true, false, if◌then◌else◌, refl, sym, ap, ◌∙◌, arith, subst, ◌==◌, ◌||◌}
 use Rattle.std.specs.FinMap.{get}
-use Rattle.rv_word.specs.Word.{alu}
+use Rattle.rv_word.specs.Word.{alu, bits}
+use Rattle.rv_word.proofs.Words.{bits_below}
 use Rattle.rv_event.specs.declared.event.TrapKind.TheVariants as traps
 use Rattle.rv_event.specs.declared.event.End.TheVariants as ends
 use Rattle.rv_event.specs.declared.event.Event.{Event}
@@ -17,8 +18,11 @@ use Rattle.term_model.proofs.ByteLemmas.{bytes_everywhere}
 use Rattle.memory_map.specs.Cells.{Map, execute, read, write, first_without, word_at, placed}
 use Rattle.memory_map.specs.declared.heap.Heap.{Heap}
 use Rattle.memory_map.specs.Heaps.{may_break, with_break}
-use Rattle.rv_machine.specs.State.{State, Next, Goes, Ends, reg, write_reg, at, following, bits, trap}
-use Rattle.rv_machine.specs.Calls.{Reply, Answers, Moves, Breaks, Exits, if_none, break_reply, reply_to}
+use Rattle.call_replies.specs.declared.Reply.{Reply}
+use Rattle.call_replies.specs.declared.Reply.TheVariants.{Answers, Moves, Breaks, Exits}
+use Rattle.call_replies.specs.Calls.{reply_to}
+use Rattle.call_replies.proofs.Replies.{IsWord, puts_a_word}
+use Rattle.rv_machine.specs.State.{State, Next, Goes, Ends, reg, write_reg, at, following, trap}
 use Rattle.rv_machine.specs.Effects.{even, jump, exit, taken, size_of, stored, input_bytes, after_load, after_store, after_call, address_of, effect, executed, after_fetch, step}
 use Rattle.input_laws.specs.Inputs.{IsInput}
 use Rattle.replay_law.specs.Making.{Making, IsMaker}
@@ -49,11 +53,6 @@ jump_goes P pc target s p = either (target % 4 == 0)
 branch_goes : (P : State → Type 0) (b : Bool) (m n : Next) → OnGoes P m → OnGoes P n → OnGoes P (if b then m else n)
 branch_goes P true m n p q = p
 branch_goes P false m n p q = q
-
--- an integer's word is below 2 ^ 32
-pub bits_below : (z : ℤ) → bits z < 2 ^ 32
-bits_below (pos n) = omega arith
-bits_below (negsuc n) = omega arith
 
 -- the terms of memory are made bytes
 pub bytes_of : {IsMade : Tree → Type 0} {terms : SymbolicState} → AreMade IsMade terms → (a : ℕ) → IsByte IsMade (terms.bytes a)
@@ -113,37 +112,6 @@ store_goes m {terms} {y} {s} bs h width rs2 a None =
     stay (moved h a terms.place s.place _ _ h.agrees.place (ap (stored width) (reg_value h.agrees rs2) ∙ stored_value m y bs width (reg_term terms rs2) (h.made.registers rs2)) (stored_bytes m width (reg_term terms rs2) (h.made.registers rs2))) _
 store_goes m bs h width rs2 a (Some fault) = tt
 
--- the value that a call answers is a word
-abbrev IsWordReply : Reply → Type 0
-IsWordReply (Answers v) = v < 2 ^ 32
-IsWordReply (Moves k) = k < 2 ^ 32
-IsWordReply (Breaks h a) = a < 2 ^ 32
-IsWordReply (Exits code) = Unit {0}
-
--- a reply with a word answers one where an address lacks a right
-if_none_word : (o : Option ℕ) (r : Reply) → IsWordReply r → IsWordReply (if_none o r)
-if_none_word None r h = h
-if_none_word (Some a) r h = omega arith
-
--- either of two such replies
-either_word : (b : Bool) (p q : Reply) → IsWordReply p → IsWordReply q → IsWordReply (if b then p else q)
-either_word true p q h k = h
-either_word false p q h k = k
-
--- the reply to brk
-break_word : (heap : Option Heap) (a0 : ℕ) → IfSome heap (λ h. h.brk < 2 ^ 32) → a0 < 2 ^ 32 → IsWordReply (break_reply heap a0)
-break_word None a0 h k = omega arith
-break_word (Some heap) a0 h k = either_word (may_break heap a0) (Breaks heap a0) (Answers heap.brk) k h
-
--- the reply to a call answers a word
-reply_word : (m : Map) (heap : Option Heap) (left a7 a0 a1 a2 : ℕ) → IfSome heap (λ h. h.brk < 2 ^ 32) → a0 < 2 ^ 32 → a2 < 2 ^ 32 → IsWordReply (reply_to m heap left a7 a0 a1 a2)
-unfolding reply_to
-reply_word m heap left a7 a0 a1 a2 b k h =
-    either_word (a7 == 63) _ _ (either_word (a0 == 0) _ _ (if_none_word (first_without write m a1 (min a2 left)) (Moves (min a2 left)) (omega arith)) (omega arith))
-    (either_word (a7 == 64) _ _ (either_word ((a0 == 1) || (a0 == 2)) _ _ (if_none_word (first_without read m a1 a2) (Answers a2) h) (omega arith))
-    (either_word ((a7 == 93) || (a7 == 94)) (Exits a0) _ tt
-    (either_word (a7 == 214) (break_reply heap a0) (Answers (2 ^ 32 - 38)) (break_word heap a0 b k) (omega arith))))
-
 -- an exit doesn't go on
 pub exit_goes : (P : State → Type 0) (pc code : ℕ) → OnGoes P (exit pc code)
 exit_goes P pc code = either (nat_lt code 128)
@@ -153,7 +121,7 @@ exit_goes P pc code = either (nat_lt code 128)
     either false = tt
 
 -- a call, by its reply
-reply_goes : {made : Making} {IsMade : Tree → Type 0} → IsMaker made IsMade → {terms : SymbolicState} {y : List ℕ} {s : State} → Stands IsMade terms y s → (e : Event) → call_value e 2 ≡ reg s 11 → (r : Reply) → IsWordReply r → OnGoes (Stands IsMade (after_reply terms e r) y) (after_call y s r)
+reply_goes : {made : Making} {IsMade : Tree → Type 0} → IsMaker made IsMade → {terms : SymbolicState} {y : List ℕ} {s : State} → Stands IsMade terms y s → (e : Event) → call_value e 2 ≡ reg s 11 → (r : Reply) → IsWord r → OnGoes (Stands IsMade (after_reply terms e r) y) (after_call y s r)
 reply_goes m h e a1 (Answers v) w = put h _ 10 v (Const v) refl (m.constant v w)
 reply_goes {IsMade = IsMade} m {terms} {y} {s} h e a1 (Moves k) w =
     put (subst (λ (a : ℕ). Stands IsMade (record { registers = terms.registers; bytes = put_trees terms.bytes (call_value e 2) (input_terms terms.place k); place = terms.place + k; cells = terms.cells; heap = terms.heap }) y (record { registers = s.registers; pc = s.pc; memory = placed s.memory a (input_bytes y s.place k); heap = s.heap; place = s.place + k })) a1
@@ -173,7 +141,7 @@ branch_stay {IsMade} {terms} {y} {s} h true pc target = jump_goes (Stands IsMade
 branch_stay h false pc target = stay h _
 
 -- a call, by a reply that is that of the terms
-call_goes : {made : Making} {IsMade : Tree → Type 0} → IsMaker made IsMade → {terms : SymbolicState} {y : List ℕ} {s : State} → Stands IsMade terms y s → (e : Event) → call_value e 2 ≡ reg s 11 → (r q : Reply) → r ≡ q → IsWordReply r → OnGoes (Stands IsMade (after_reply terms e q) y) (after_call y s r)
+call_goes : {made : Making} {IsMade : Tree → Type 0} → IsMaker made IsMade → {terms : SymbolicState} {y : List ℕ} {s : State} → Stands IsMade terms y s → (e : Event) → call_value e 2 ≡ reg s 11 → (r q : Reply) → r ≡ q → IsWord r → OnGoes (Stands IsMade (after_reply terms e q) y) (after_call y s r)
 call_goes {IsMade = IsMade} m {terms} {y} {s} h e a1 r q same w = subst (λ (p : Reply). OnGoes (Stands IsMade (after_reply terms e p) y) (after_call y s r)) same (reply_goes m h e a1 r w)
 
 -- the row of each instruction
@@ -202,7 +170,7 @@ row_goes m {terms} {y} {s} n inp h word Ecall =
     (reply_to s.memory s.heap (length y - s.place) (reg s 17) (reg s 10) (reg s 11) (reg s 12))
     (reply_to terms.cells terms.heap (n - terms.place) (reg s 17) (reg s 10) (reg s 11) (reg s 12))
     (reply_same (same_rights h.agrees) s.heap (length y - s.place) (reg s 17) (reg s 10) (reg s 11) (reg s 12) ∙ (λ i. reply_to terms.cells (h.agrees.heap i) (inp.long i - h.agrees.place i) (reg s 17) (reg s 10) (reg s 11) (reg s 12)))
-    (reply_word s.memory s.heap (length y - s.place) (reg s 17) (reg s 10) (reg s 11) (reg s 12) (subst (λ (o : Option Heap). IfSome o (λ x. x.brk < 2 ^ 32)) (sym h.agrees.heap) h.made.break) v w)
+    (puts_a_word s.memory s.heap (length y - s.place) (reg s 17) (reg s 10) (reg s 11) (reg s 12) (subst (λ (o : Option Heap). IfSome o (λ x. x.brk < 2 ^ 32)) (sym h.agrees.heap) h.made.break) v w)
 row_goes m n inp h word Ebreak = tt
 
 -- a word that may be illegal

@@ -4,13 +4,15 @@ use Rattle.std.proofs.lemmas.Bool.{eq-eqb, eqb-true, eqb-false, ne_eqb}
 use Rattle.rv_decode.specs.declared.instr.Instr.{Instr}
 use Rattle.rv_decode.specs.declared.instr.Instr.TheVariants.{Lui, Auipc, Jal, Jalr, Branch, Load, Store, AluImm, AluReg, Fence, Ecall, Ebreak}
 use Rattle.rv_word.specs.declared.AluOp.TheVariants.{Add}
+use Rattle.rv_word.specs.Word.{bits}
+use Rattle.rv_word.proofs.Words.{bits_below}
 use Rattle.term_model.specs.declared.Op.TheVariants.{Alu}
 use Rattle.term_model.specs.Tree.{Tree, Const}
 use Rattle.term_model.specs.Value.{val}
 use Rattle.term_model.specs.Words.{AreBytes}
 use Rattle.term_model.specs.Conditions.{Hold}
 use Rattle.term_model.proofs.HoldLemmas.{hold_none, hold_both, hold_left, hold_right}
-use Rattle.rv_machine.specs.State.{State, Goes, reg, write_reg, at, following, bits}
+use Rattle.rv_machine.specs.State.{State, Goes, reg, write_reg, at, following}
 use Rattle.rv_machine.specs.Effects.{even, jump, taken, address_of, effect}
 use Rattle.replay_law.specs.Making.{Making, IsMaker}
 use Rattle.replay_law.specs.Forms.{pin, target, branch_conditions}
@@ -18,7 +20,7 @@ use Rattle.replay_law.specs.Terms.{SymbolicState, reg_term, sum_term}
 use Rattle.replay_law.specs.Follow.{row_conditions}
 use Rattle.replay_law.proofs.Held.{pin_holds, pin_gives, target_holds, target_gives, hold_if, if_held, outcome_holds, outcome_gives}
 use Rattle.replay_law.proofs.Agreeing.{reg_value}
-use Rattle.replay_law.proofs.Stepping.{Stands, bits_below}
+use Rattle.replay_law.proofs.Stepping.{Stands}
 use Rattle.replay_law.proofs.Pinned.{shown_by, target_of, IsPinned, jump_shows}
 use Rattle.replay_law.proofs.Agreement.{AreMade}
 

@@ -1,7 +1,7 @@
 -- The conditions of a run: along its events, what has to be the same of another input for the run to be the same.
 use Rattle.std.specs.Prelude.{ℕ, ◌+◌, ◌%◌, ◌^◌, ◌==◌, List, [], ◌∷◌, ◌++◌, Option, Some, None, if◌then◌else◌}
 use Rattle.elf32.specs.Loads.{Program}
-use Rattle.rv_word.specs.Word.{byte_of}
+use Rattle.rv_word.specs.Word.{bits, byte_of}
 use Rattle.rv_event.specs.declared.event.Event.{Event}
 use Rattle.rv_event.specs.declared.event.EventKind.{EventKind}
 use Rattle.rv_event.specs.declared.event.EventKind.TheVariants as kinds
@@ -14,7 +14,7 @@ use Rattle.rv_decode.specs.declared.instr.Instr.TheVariants.{Lui, Auipc, Jal, Ja
 use Rattle.term_model.specs.declared.Op.TheVariants.{Eq}
 use Rattle.term_model.specs.Tree.{Tree, Const}
 use Rattle.memory_map.specs.Cells.{next_address}
-use Rattle.rv_machine.specs.State.{following, bits}
+use Rattle.rv_machine.specs.State.{following}
 use Rattle.replay_law.specs.Making.{Making}
 use Rattle.replay_law.specs.Forms.{pin, target, branch_conditions, with_conditions}
 use Rattle.replay_law.specs.Terms.{SymbolicState, reg_term, sum_term, call_value, terms_after, start_terms}

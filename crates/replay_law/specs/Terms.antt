@@ -2,6 +2,7 @@
 -- Addresses, counts and the values of calls are those that the event tells: none is a term.
 use Rattle.std.specs.Prelude.{ℕ, zero, suc, ◌+◌, ◌-◌, ◌%◌, ◌^◌, ◌==◌, ◌||◌, List, [], ◌∷◌, map, Option, Some, None, slice_index, slice_index_or, slice_set, if◌then◌else◌}
 use Rattle.rv_word.specs.declared.AluOp.TheVariants.{Add, Sll, Sra}
+use Rattle.rv_word.specs.Word.{bits}
 use Rattle.rv_event.specs.declared.event.Event.{Event}
 use Rattle.rv_decode.specs.Table.{decoded}
 use Rattle.rv_decode.specs.declared.instr.Instr.{Instr}
@@ -14,8 +15,10 @@ use Rattle.elf32.specs.declared.segments.Segment.{Segment}
 use Rattle.memory_map.specs.Cells.{Map, next_address, byte_at, start_map}
 use Rattle.memory_map.specs.declared.heap.Heap.{Heap}
 use Rattle.memory_map.specs.Heaps.{with_break, start_heap, is_in_span}
-use Rattle.rv_machine.specs.State.{following, bits, start_registers}
-use Rattle.rv_machine.specs.Calls.{Reply, Answers, Moves, Breaks, Exits, reply_to}
+use Rattle.call_replies.specs.declared.Reply.{Reply}
+use Rattle.call_replies.specs.declared.Reply.TheVariants.{Answers, Moves, Breaks, Exits}
+use Rattle.call_replies.specs.Calls.{reply_to}
+use Rattle.rv_machine.specs.State.{following, start_registers}
 use Rattle.replay_law.specs.Making.{Making}
 use Rattle.replay_law.specs.Forms.{byte_term}
 

@@ -1,7 +1,6 @@
 -- Bytes that are stored and read.
-use Rattle.std.proofs.Common.{◌≡◌, ℕ, zero, suc, ◌+◌, ◌-◌, ◌<◌, ◌≤◌, List, ◌∷◌, length, take, drop, min, get_or, refl, sym, ap, ◌∙◌, arith}
+use Rattle.std.proofs.Common.{◌≡◌, ℕ, zero, suc, ◌+◌, ◌<◌, ◌≤◌, List, ◌∷◌, length, take, drop, get_or, refl, sym, ap, ◌∙◌, arith}
 use Rattle.std.proofs.Math.Seq.{drop-cons}
-use Rattle.std.proofs.lemmas.List.{length-drop, take_all}
 use Rattle.std.specs.Int.{to_le_bytes, w32}
 use Rattle.rv_decode.specs.declared.instr.Width.{Width}
 use Rattle.rv_decode.specs.declared.instr.Width.TheVariants as widths
@@ -16,28 +15,9 @@ input_bytes_are (suc count) place input h =
     ap (λ bs. get_or input place 0 ∷ bs) (input_bytes_are count (suc place) input (omega arith))
     ∙ sym (ap (take (suc count)) (drop-cons input place 0 inside))
 
--- the rest of the input is as long as it is
-rest_is : (place : ℕ) (input : List ℕ) → take (length input - place) (drop place input) ≡ drop place input
-rest_is place input = take_all (length input - place) (drop place input) (omega (arith, length-drop place input))
-
--- where a read asks for no less than the rest of the input, it gets the rest
-pub next_all : (input : List ℕ) (q p r count : ℕ) → q ≡ p → r ≡ count → p ≤ length input → length (take (length input - q) (drop q input)) ≤ r → take (length input - q) (drop q input) ≡ input_bytes input p (min count (length input - p))
-next_all input q p r count e f h l =
-    let whole : length (drop q input) ≤ r = (let k = ap length (rest_is q input) in omega arith) in
-    let least : min count (length input - p) ≡ length input - p = omega (arith, length-drop q input) in
-    ap (λ n. take (length input - n) (drop n input)) e
-    ∙ sym (input_bytes_are (length input - p) p input (omega arith))
-    ∙ sym (ap (input_bytes input p) least)
-
--- where it asks for less, it gets so many bytes
-pub next_some : (input : List ℕ) (q p r count : ℕ) → q ≡ p → r ≡ count → p ≤ length input → r < length (take (length input - q) (drop q input)) → take r (take (length input - q) (drop q input)) ≡ input_bytes input p (min count (length input - p))
-next_some input q p r count e f h l =
-    let whole : r < length (drop q input) = (let k = ap length (rest_is q input) in omega arith) in
-    let least : min count (length input - p) ≡ r = omega (arith, length-drop q input) in
-    ap (take r) (rest_is q input)
-    ∙ ap (λ n. take r (drop n input)) e
-    ∙ sym (input_bytes_are r p input (omega (arith, length-drop q input)))
-    ∙ sym (ap (input_bytes input p) least)
+-- so are they where place and count are known to be these
+pub next_are : (input : List ℕ) (q p r count : ℕ) → q ≡ p → r ≡ count → p + count ≤ length input → take r (drop q input) ≡ input_bytes input p count
+next_are input q p r count e f h = (λ i. take (f i) (drop (e i) input)) ∙ sym (input_bytes_are count p input h)
 
 -- the lowest bytes of a word
 pub stored_bytes : (width : Width) (value : ℕ) → take (size_of width) (to_le_bytes w32 value) ≡ stored width value

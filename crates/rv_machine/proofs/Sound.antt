@@ -1,17 +1,20 @@
 -- What a step keeps of the input place, and that no step ends by the limit.
-use Rattle.std.proofs.Common.{◌≡◌, ℕ, nat_lt, ◌+◌, ◌-◌, ◌%◌, ◌^◌, ◌≤◌, ◌==◌, ◌||◌, List, length, min, Bool, true, false, cond, Option, Some, None, refl, sym, ap, ◌∙◌, subst, arith}
-use Rattle.memory_map.specs.Cells.{Map, first_without, read, write, execute, word_at}
-use Rattle.memory_map.specs.declared.heap.Heap.{Heap}
-use Rattle.memory_map.specs.Heaps.{may_break}
+use Rattle.std.proofs.Common.{◌≡◌, ℕ, nat_lt, ◌+◌, ◌-◌, ◌%◌, ◌^◌, ◌≤◌, ◌==◌, List, length, Bool, true, false, cond, Option, Some, None, refl, sym, ap, ◌∙◌, subst, arith}
+use Rattle.memory_map.specs.Cells.{first_without, execute, word_at}
 use Rattle.rv_decode.specs.Table.{decoded}
 use Rattle.rv_decode.specs.declared.instr.Instr.{Instr}
 use Rattle.rv_decode.specs.declared.instr.Instr.TheVariants.{Lui, Auipc, Jal, Jalr, Branch, Load, Store, AluImm, AluReg, Fence, Ecall, Ebreak}
 use Rattle.rv_decode.specs.declared.instr.Width.{Width}
+use Rattle.rv_word.specs.Word.{bits}
 use Rattle.rv_event.specs.declared.event.End.{End}
 use Rattle.rv_event.specs.declared.event.TrapKind.TheVariants as traps
 use Rattle.rv_event.specs.declared.event.End.TheVariants as ends
-use Rattle.rv_machine.specs.State.{State, Next, Goes, Ends, reg, write_reg, at, following, bits, trap}
-use Rattle.rv_machine.specs.Calls.{Reply, Answers, Moves, Breaks, Exits, bad_descriptor, no_such_call, if_none, read_reply, write_reply, break_reply, reply_to}
+use Rattle.call_replies.specs.declared.Reply.{Reply}
+use Rattle.call_replies.specs.declared.Reply.TheVariants.{Answers, Moves, Breaks, Exits}
+use Rattle.call_replies.specs.Calls.{reply_to}
+use Rattle.call_replies.specs.Replies.{moved}
+use Rattle.call_replies.proofs.Replies.{moves_at_most}
+use Rattle.rv_machine.specs.State.{State, Next, Goes, Ends, reg, write_reg, at, following, trap}
 use Rattle.rv_machine.specs.Effects.{jump, exit, taken, after_load, after_store, after_call, effect, executed, after_fetch, step}
 use Rattle.rv_machine.specs.Progress.{Progress, Follows, EndsRun}
 use Rattle.rv_machine.specs.Trace.{has_ended}
@@ -20,13 +23,6 @@ use Rattle.rv_machine.specs.Trace.{has_ended}
 abbrev Within : List ℕ → Next → Type 0
 Within x (Goes s) = s.place ≤ length x
 Within x (Ends e) = has_ended e ≡ true
-
--- a reply moves no more bytes than are left
-abbrev Moderate : ℕ → Reply → Type 0
-Moderate left (Answers v) = Unit {0}
-Moderate left (Moves k) = k ≤ left
-Moderate left (Breaks heap a) = Unit {0}
-Moderate left (Exits code) = Unit {0}
 
 jump_ok : (x : List ℕ) (pc target : ℕ) (after : State) → after.place ≤ length x → Within x (jump pc target after)
 jump_ok x pc target after h = elim (target % 4 == 0) as (λ t. Within x (cond t (Goes (at target after)) (trap pc traps.MisalignedJump target))) [ true ↦ h | false ↦ refl ]
@@ -43,37 +39,10 @@ store_ok : (x : List ℕ) (s : State) (width : Width) (value a : ℕ) (o : Optio
 store_ok x s width value a None h = h
 store_ok x s width value a (Some fault) h = refl
 
-if_none_moderate : (left : ℕ) (o : Option ℕ) (reply : Reply) → Moderate left reply → Moderate left (if_none o reply)
-if_none_moderate left None reply h = h
-if_none_moderate left (Some address) reply h = tt
-
-either_moderate : (left : ℕ) (t : Bool) (a b : Reply) → Moderate left a → Moderate left b → Moderate left (cond t a b)
-either_moderate left true a b h l = h
-either_moderate left false a b h l = l
-
-read_moderate : (m : Map) (left a0 a1 a2 : ℕ) → Moderate left (read_reply m left a0 a1 a2)
-read_moderate m left a0 a1 a2 = either_moderate left (a0 == 0) _ (Answers bad_descriptor) (if_none_moderate left (first_without write m a1 (min a2 left)) (Moves (min a2 left)) (omega arith)) tt
-
-write_moderate : (m : Map) (left a0 a1 a2 : ℕ) → Moderate left (write_reply m a0 a1 a2)
-write_moderate m left a0 a1 a2 = either_moderate left ((a0 == 1) || (a0 == 2)) _ (Answers bad_descriptor) (if_none_moderate left (first_without read m a1 a2) (Answers a2) tt) tt
-
-break_moderate : (heap : Option Heap) (left a0 : ℕ) → Moderate left (break_reply heap a0)
-break_moderate None left a0 = tt
-break_moderate (Some h) left a0 = either_moderate left (may_break h a0) (Breaks h a0) (Answers h.brk) tt tt
-
--- a reply moves no more bytes than are left
-reply_moderate : (m : Map) (heap : Option Heap) (left a7 a0 a1 a2 : ℕ) → Moderate left (reply_to m heap left a7 a0 a1 a2)
-unfolding reply_to
-reply_moderate m heap left a7 a0 a1 a2 =
-    either_moderate left (a7 == 63) (read_reply m left a0 a1 a2) _ (read_moderate m left a0 a1 a2)
-    (either_moderate left (a7 == 64) (write_reply m a0 a1 a2) _ (write_moderate m left a0 a1 a2)
-    (either_moderate left ((a7 == 93) || (a7 == 94)) (Exits a0) _ tt
-    (either_moderate left (a7 == 214) (break_reply heap a0) (Answers no_such_call) (break_moderate heap left a0) tt)))
-
 exit_ok : (x : List ℕ) (pc code : ℕ) → Within x (exit pc code)
 exit_ok x pc code = elim (nat_lt code 128) as (λ t. Within x (cond t (Ends (ends.Exit code)) (trap pc traps.Abort code))) [ true ↦ refl | false ↦ refl ]
 
-call_ok : (x : List ℕ) (s : State) (reply : Reply) → s.place ≤ length x → Moderate (length x - s.place) reply → Within x (after_call x s reply)
+call_ok : (x : List ℕ) (s : State) (reply : Reply) → s.place ≤ length x → moved reply ≤ length x - s.place → Within x (after_call x s reply)
 call_ok x s (Answers v) h m = h
 call_ok x s (Moves k) h m = omega arith
 call_ok x s (Breaks heap a) h m = h
@@ -91,7 +60,7 @@ effect_ok x s w (Store width rs1 rs2 imm) h = store_ok x s width _ _ _ h
 effect_ok x s w (AluImm op rd rs1 imm) h = h
 effect_ok x s w (AluReg op rd rs1 rs2) h = h
 effect_ok x s w (Fence word) h = h
-effect_ok x s w Ecall h = call_ok x s _ h (reply_moderate s.memory s.heap (length x - s.place) (reg s 17) (reg s 10) (reg s 11) (reg s 12))
+effect_ok x s w Ecall h = call_ok x s (reply_to s.memory s.heap (length x - s.place) (reg s 17) (reg s 10) (reg s 11) (reg s 12)) h (moves_at_most s.memory s.heap (length x - s.place) (reg s 17) (reg s 10) (reg s 11) (reg s 12))
 effect_ok x s w Ebreak h = refl
 
 executed_ok : (x : List ℕ) (s : State) (w : ℕ) (o : Option Instr) → s.place ≤ length x → Within x (executed x s w o).next

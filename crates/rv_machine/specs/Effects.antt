@@ -1,7 +1,7 @@
 -- One step of the machine, in the order of the RISC-V unprivileged ISA's chapters "RV32I", "Zifencei" and "M".
 use Rattle.std.specs.Prelude.{ℕ, zero, suc, ◌+◌, ◌-◌, ◌/◌, ◌%◌, ◌^◌, ◌==◌, nat_lt, int_lt, List, [], ◌∷◌, length, Bool, not, Option, Some, None, slice_index, if◌then◌else◌}
 use Rattle.std.specs.Int.{cast_unsigned, w32}
-use Rattle.rv_word.specs.Word.{alu, signed}
+use Rattle.rv_word.specs.Word.{alu, bits, signed}
 use Rattle.rv_decode.specs.Fields.{sign_extended}
 use Rattle.rv_decode.specs.Table.{decoded}
 use Rattle.rv_decode.specs.declared.instr.Instr.{Instr}
@@ -15,8 +15,10 @@ use Rattle.rv_event.specs.declared.event.TrapKind.TheVariants as traps
 use Rattle.rv_event.specs.declared.event.End.TheVariants as ends
 use Rattle.memory_map.specs.Cells.{Map, execute, read, write, first_without, byte_at, half_at, word_at, placed}
 use Rattle.memory_map.specs.Heaps.{with_break}
-use Rattle.rv_machine.specs.State.{State, Next, Goes, Ends, StepResult, reg, write_reg, at, following, bits, no_call, event_of, trap}
-use Rattle.rv_machine.specs.Calls.{Reply, Answers, Moves, Breaks, Exits, reply_to}
+use Rattle.call_replies.specs.declared.Reply.{Reply}
+use Rattle.call_replies.specs.declared.Reply.TheVariants.{Answers, Moves, Breaks, Exits}
+use Rattle.call_replies.specs.Calls.{reply_to}
+use Rattle.rv_machine.specs.State.{State, Next, Goes, Ends, StepResult, reg, write_reg, at, following, no_call, event_of, trap}
 
 -- an instruction that writes a register and goes on to the next
 abbrev pub goes_on : State → ℕ → ℕ → Next

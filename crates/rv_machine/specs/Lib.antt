@@ -1,5 +1,4 @@
 pub mod State
-pub mod Calls
 pub mod Effects
 pub mod Trace
 pub mod Class

@@ -1,5 +1,5 @@
 -- The state of a machine, on plain numbers.
-use Rattle.std.specs.Prelude.{ℕ, Option, ◌+◌, ◌%◌, ◌^◌, ◌==◌, List, [], ◌∷◌, ℤ, slice_index, slice_set, replicate, if◌then◌else◌}
+use Rattle.std.specs.Prelude.{ℕ, Option, ◌+◌, ◌%◌, ◌^◌, ◌==◌, List, [], ◌∷◌, slice_index, slice_set, replicate, if◌then◌else◌}
 use Rattle.elf32.specs.declared.segments.Segment.{Segment}
 use Rattle.memory_map.specs.Cells.{Map, start_map}
 use Rattle.memory_map.specs.declared.heap.Heap.{Heap}
@@ -9,7 +9,6 @@ use Rattle.rv_event.specs.declared.event.EventKind.{EventKind}
 use Rattle.rv_event.specs.declared.event.TrapKind.{TrapKind}
 use Rattle.rv_event.specs.declared.event.End.{End}
 use Rattle.rv_event.specs.declared.event.End.TheVariants as ends
-use Rattle.rv_word.specs.Word.{word}
 
 -- the registers x0 to x31, the program counter, the memory, the heap, and how many bytes of the input have been read
 pub record State : Type 0 where
@@ -48,10 +47,6 @@ at target s = record s { pc = target }
 -- the address of the next instruction
 abbrev pub following : ℕ → ℕ
 following pc = (pc + 4) % 2 ^ 32
-
--- an immediate or an offset as a word
-abbrev pub bits : ℤ → ℕ
-bits z = word z
 
 -- the call of an event that is no ECALL
 abbrev pub no_call : List ℕ

@@ -2,20 +2,11 @@
 
 ghost use Rattle.std.specs.Prelude.{◌≡◌, ◌≤◌};
 ghost use Rattle.memory_map.specs.Cells.{read, byte_at, first_without, ok_unless};
-ghost use Rattle.rv_machine.specs.State.{bits};
 ghost use Rattle.rv_machine.specs.Effects.{loaded, size_of};
 
 use memory_map::Memory;
 use rv_decode::Width;
 use rv_decode::fields::sign_extended;
-
-/// An integer as a word, in two's complement.
-#[tactic(auto, using(rv_word::proofs::Words::word_is))]
-pub fn bits(integer: i32) -> u32
-    ensures { result ≡ bits integer }
-{
-    integer.cast_unsigned()
-}
 
 /// How many bytes a load or a store moves.
 pub fn size_of(width: Width) -> usize

@@ -3,36 +3,32 @@
 //! What stands on a step's way is inlined, so that a loop that looks at a part of the event alone doesn't
 //! make the rest.
 
-ghost use Rattle.std.specs.Prelude.{◌≡◌, ℕ, ◌+◌, ◌-◌, ◌<◌, ◌≤◌, ◌%◌, ◌^◌, false, length, min, IfOk, List, [], ◌∷◌};
+ghost use Rattle.std.specs.Prelude.{◌≡◌, ℕ, ◌+◌, ◌-◌, ◌<◌, ◌≤◌, ◌%◌, ◌^◌, true, false, length, Some, None, IfOk, List, [], ◌∷◌};
 ghost use Rattle.memory_map.specs.Cells.{first_without, readable_byte};
 ghost use Rattle.memory_map.specs.Cells as cells;
+ghost use Rattle.memory_map.specs.Heaps.{may_break};
+ghost use Rattle.memory_map.specs.declared.heap.Heap.{Heap};
+ghost use Rattle.rv_word.specs.Word.{bits};
 ghost use Rattle.rv_decode.specs.Rows.{IsWellFormed};
-ghost use Rattle.rv_machine.specs.State.{Goes, Ends, reg, write_reg, at, following, bits, no_call, event_of, trap, start};
-ghost use Rattle.rv_machine.specs.Calls.{read_reply, write_reply, break_reply, reply_to};
+ghost use Rattle.call_replies.specs.Calls.{reply_to};
+ghost use Rattle.call_replies.specs.declared.Reply.TheVariants.{Moves, Breaks};
+ghost use Rattle.rv_machine.specs.State.{Goes, Ends, reg, write_reg, at, following, no_call, event_of, trap, start};
 ghost use Rattle.rv_machine.specs.Effects.{goes_on, taken, jump, exit, size_of, address_of, after_load};
 ghost use Rattle.rv_machine.specs.Effects.{after_store, input_bytes, after_call, effect, step};
 ghost use Rattle.rv_machine.specs.Progress.{Follows, EndsRun};
 ghost use Rattle.rv_machine.specs.Plain.{IsPlain};
 
-use crate::access::{bits, loaded, size_of};
+use crate::access::{loaded, size_of};
+use call_replies::{Reply, reply_to};
 use decode_cache::DecodeCache;
 use elf32::Image;
-use memory_map::Memory;
+use memory_map::{Heap, Memory};
 use no_memory::NoMemory;
 use rv_decode::{Cond, Instr, Width};
 use rv_event::{End, Event, EventKind, Trap, TrapKind};
-use rv_word::alu;
+use rv_word::{alu, bits};
 use std::alloc::Global;
 use std::marker::Model;
-
-/// -9 as a word, EBADF of Linux negated: no such descriptor.
-const BAD_DESCRIPTOR: u32 = 0xffff_fff7;
-
-/// -14 as a word, EFAULT of Linux negated: an address lacks a right.
-const BAD_ADDRESS: u32 = 0xffff_fff2;
-
-/// -38 as a word, ENOSYS of Linux negated: no such call.
-const NO_SUCH_CALL: u32 = 0xffff_ffda;
 
 /// What a step gives.
 #[derive(Clone, Copy, Debug)]
@@ -254,6 +250,19 @@ impl Machine {
         }
     }
 
+    /// The number of a call and its arguments: the values of a7, a0, a1 and a2.
+    fn call_values(&self) -> [u32; 4]
+        ensures { result
+            ≡ reg self.now.state 17 ∷ reg self.now.state 10 ∷ reg self.now.state 11 ∷ reg self.now.state 12 ∷ [] }
+    {
+        [
+            self.register(17),
+            self.register(10),
+            self.register(11),
+            self.register(12),
+        ]
+    }
+
     /// The event of a call.
     #[inline(never)]
     fn call_event(&self, word: u32) -> Event
@@ -261,17 +270,11 @@ impl Machine {
             ≡ event_of self.now.state word 0 (reg self.now.state 17 ∷ reg self.now.state 10 ∷ reg self.now.state 11
             ∷ reg self.now.state 12 ∷ []) EventKind.Call }
     {
-        let call = [
-            self.register(17),
-            self.register(10),
-            self.register(11),
-            self.register(12),
-        ];
         Event {
             pc: self.pc,
             word,
             addr: 0,
-            call,
+            call: self.call_values(),
             kind: EventKind::Call,
         }
     }
@@ -307,72 +310,39 @@ impl Machine {
         self.finish(10, value)
     }
 
-    /// The bytes that a read would give.
-    fn next_bytes<'a>(&self, input: &'a [u8]) -> &'a [u8]
-        requires { self.now.state.place ≤ length input.now }
-        ensures bytes { result.now
-            ≡ input_bytes input.now self.now.state.place (min (reg self.now.state 12) (length input.now - self.now.state.place)) }
-        ensures count { length result.now ≡ min (reg self.now.state 12) (length input.now - self.now.state.place) }
+    /// The next bytes of the input.
+    fn next_bytes<'a>(&self, input: &'a [u8], count: u32) -> &'a [u8]
+        requires { self.now.state.place + count ≤ length input.now }
+        ensures bytes { result.now ≡ input_bytes input.now self.now.state.place count }
+        ensures count { length result.now ≡ count }
     {
-        let rest = &input[self.place as usize..];
-        let count = self.register(12) as usize;
-        if rest.len() <= count {
-            rest
-        } else {
-            &rest[..count]
-        }
+        let place = self.place as usize;
+        &input[place..place + count as usize]
     }
 
-    /// The call read.
-    fn read_call(&mut self, input: &[u8]) -> Option<End>
-        requires place { self.old.state.place ≤ length input.now }
+    /// Moves the next bytes of the input to the addresses from a1 up, which may be written, and counts them
+    /// in a0.
+    fn move_bytes(&mut self, input: &[u8], count: u32) -> Option<End>
+        requires place { self.old.state.place + count ≤ length input.now }
         requires size { length input.now ≤ 65536 }
-        ensures { Follows self.old (after_call input.now self.old.state (read_reply self.old.state.memory
-            (length input.now - self.old.state.place) (reg self.old.state 10) (reg self.old.state 11) (reg self.old.state 12))) result self.new }
+        requires writable { first_without cells.write self.old.state.memory (reg self.old.state 11) count ≡ None }
+        ensures { Follows self.old (after_call input.now self.old.state (Moves count)) result self.new }
     {
-        if self.register(10) != 0 {
-            return self.answer(BAD_DESCRIPTOR);
-        }
-        let bytes = self.next_bytes(input);
+        let bytes = self.next_bytes(input, count);
         let address = self.register(11);
-        match self.memory.store_bytes(address, bytes) {
-            Ok(()) => {
-                let count = bytes.len() as u32;
-                self.place += count;
-                self.answer(count)
-            }
-            Err(_) => self.answer(BAD_ADDRESS),
-        }
+        self.memory.store_bytes(address, bytes).unwrap();
+        self.place += count;
+        self.answer(count)
     }
 
-    /// The call write, which discards its bytes.
-    fn write_call(&mut self) -> Option<End>
-        ensures { (input : List ℕ) →
-            Follows self.old (after_call input self.old.state (write_reply self.old.state.memory (reg self.old.state 10)
-            (reg self.old.state 11) (reg self.old.state 12))) result self.new }
+    /// Moves the break of this heap, which is the machine's, to an address where it may be, and answers that.
+    fn move_break(&mut self, _heap: Heap, address: u32) -> Option<End>
+        requires heap { self.old.state.heap ≡ Some _heap }
+        requires may { may_break _heap address ≡ true }
+        ensures { (input : List ℕ) → Follows self.old (after_call input self.old.state (Breaks _heap address)) result self.new }
     {
-        let descriptor = self.register(10);
-        if descriptor != 1 && descriptor != 2 {
-            return self.answer(BAD_DESCRIPTOR);
-        }
-        let size = self.register(12);
-        if self.memory.readable(self.register(11), size) {
-            self.answer(size)
-        } else {
-            self.answer(BAD_ADDRESS)
-        }
-    }
-
-    /// The call brk.
-    fn brk_call(&mut self) -> Option<End>
-        ensures { (input : List ℕ) →
-            Follows self.old (after_call input self.old.state (break_reply self.old.state.heap (reg self.old.state 10))) result self.new }
-    {
-        let address = self.register(10);
-        match self.memory.brk(address) {
-            Some(brk) => self.answer(brk),
-            None => self.answer(NO_SUCH_CALL),
-        }
+        self.memory.brk(address);
+        self.answer(address)
     }
 
     /// The calls exit and exit_group. A code of 128 or more is an abort.
@@ -386,8 +356,7 @@ impl Machine {
         }
     }
 
-    /// The call that a7 names.
-    #[tactic(auto, unfolding(crate::specs::Calls::reply_to))]
+    /// A call: what its reply says is done.
     #[inline(never)]
     fn call(&mut self, input: &[u8]) -> Option<End>
         requires place { self.old.state.place ≤ length input.now }
@@ -396,12 +365,13 @@ impl Machine {
             (length input.now - self.old.state.place) (reg self.old.state 17) (reg self.old.state 10) (reg self.old.state 11)
             (reg self.old.state 12))) result self.new }
     {
-        match self.register(17) {
-            63 => self.read_call(input),
-            64 => self.write_call(),
-            93 | 94 => self.exit(self.register(10)),
-            214 => self.brk_call(),
-            _ => self.answer(NO_SUCH_CALL),
+        let left = input.len() as u32 - self.place;
+        let call = self.call_values();
+        match reply_to(&self.memory, left, call) {
+            Reply::Answers(value) => self.answer(value),
+            Reply::Moves(count) => self.move_bytes(input, count),
+            Reply::Breaks(heap, address) => self.move_break(heap, address),
+            Reply::Exits(code) => self.exit(code),
         }
     }
 

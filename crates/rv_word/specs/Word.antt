@@ -8,10 +8,10 @@ use Rattle.rv_word.specs.declared.AluOp.TheVariants.{Add, Sub, Sll, Slt, Sltu, X
 abbrev pub signed : ℕ → ℤ
 signed a = cast_signed w32 a
 
--- an integer modulo 2 ^ 32; `negsuc n` is -1 - n
-abbrev pub word : ℤ → ℕ
-word (pos n) = n % 2 ^ 32
-word (negsuc n) = 2 ^ 32 - 1 - n % 2 ^ 32
+-- an integer as a word, in two's complement: modulo 2 ^ 32, where `negsuc n` is -1 - n
+abbrev pub bits : ℤ → ℕ
+bits (pos n) = n % 2 ^ 32
+bits (negsuc n) = 2 ^ 32 - 1 - n % 2 ^ 32
 
 -- byte k of a word, where byte 0 is the lowest
 abbrev pub byte_of : ℕ → ℕ → ℕ
@@ -33,19 +33,19 @@ alu Sltu a b = from_bool (nat_lt a b)
 alu Xor a b = bit_xor a b
 -- shift to the right, with zeros and with copies of the sign
 alu Srl a b = a / 2 ^ (b % 32)
-alu Sra a b = word (int_shr (signed a) (b % 32))
+alu Sra a b = bits (int_shr (signed a) (b % 32))
 -- bit by bit
 alu Or a b = bit_or a b
 alu And a b = bit_and a b
 -- the lower half of the product
 alu Mul a b = (a * b) % 2 ^ 32
 -- the upper half of the product of signed and signed, signed and unsigned, unsigned and unsigned
-alu Mulh a b = word (int_shr (signed a *ℤ signed b) 32)
-alu Mulhsu a b = word (int_shr (signed a *ℤ pos b) 32)
+alu Mulh a b = bits (int_shr (signed a *ℤ signed b) 32)
+alu Mulhsu a b = bits (int_shr (signed a *ℤ pos b) 32)
 alu Mulhu a b = a * b / 2 ^ 32
 -- quotient, signed and unsigned; all bits set where b is 0
-alu Div a b = if b == 0 then 2 ^ 32 - 1 else word (int_div (signed a) (signed b))
+alu Div a b = if b == 0 then 2 ^ 32 - 1 else bits (int_div (signed a) (signed b))
 alu Divu a b = if b == 0 then 2 ^ 32 - 1 else a / b
 -- remainder, signed and unsigned; a where b is 0
-alu Rem a b = if b == 0 then a else word (int_rem (signed a) (signed b))
+alu Rem a b = if b == 0 then a else bits (int_rem (signed a) (signed b))
 alu Remu a b = if b == 0 then a else a % b

@@ -1,5 +1,6 @@
 //! The eighteen operations on words of 32 bits that RV32I and the extension M name ("Integer
-//! Computational Instructions" and "M" of the RISC-V Unprivileged ISA), and the bytes of a word.
+//! Computational Instructions" and "M" of the RISC-V Unprivileged ISA), an integer as a word, and the bytes of
+//! a word.
 //!
 //! Nothing here takes memory, and no call has a case that it refuses: a division by zero and the
 //! overflow of a signed division have the values that the standard gives them.
@@ -7,7 +8,7 @@
 
 ghost use Rattle.std.specs.Prelude.{◌≡◌, ◌<◌};
 ghost use Rattle.std.specs.Int.{int_shr};
-ghost use Rattle.rv_word.specs.Word.{alu, byte_of, word};
+ghost use Rattle.rv_word.specs.Word.{alu, bits, byte_of};
 
 /// An operation on two words.
 #[derive(Clone, Copy, Debug, PartialEq, Eq)]
@@ -51,9 +52,17 @@ pub enum AluOp {
     Remu,
 }
 
+/// An integer as a word, in two's complement.
+#[tactic(auto, using(crate::proofs::Words::bits_is))]
+pub fn bits(integer: i32) -> u32
+    ensures { result ≡ bits integer }
+{
+    integer.cast_unsigned()
+}
+
 /// The upper 32 bits of a product of 64.
 fn upper(product: i64) -> u32
-    ensures { result ≡ word (int_shr product 32) }
+    ensures { result ≡ bits (int_shr product 32) }
 {
     ((product >> 32) as i32).cast_unsigned()
 }

@@ -11,7 +11,10 @@ use Rattle.memory_map.specs.declared.heap.Heap.{Heap}
 use Rattle.memory_map.specs.Heaps.{heap_cell, with_break, is_in_span}
 use Rattle.memory_map.proofs.Placed.{get-with_byte}
 use Rattle.memory_map.proofs.Heaps.{get-with_break, cell_moved}
-use Rattle.rv_machine.specs.Calls.{Reply, Answers, Moves, Breaks, Exits, bad_descriptor, no_such_call, if_none, break_reply, reply_to}
+use Rattle.call_replies.specs.declared.Reply.{Reply}
+use Rattle.call_replies.specs.declared.Reply.TheVariants.{Answers, Moves, Breaks, Exits}
+use Rattle.call_replies.specs.Calls.{reply_to}
+use Rattle.call_replies.proofs.Replies.{rests_on_rights}
 use Rattle.rv_event.specs.declared.event.Event.{Event}
 use Rattle.rv_event.specs.declared.event.EventKind.{EventKind}
 use Rattle.rv_event.specs.declared.event.EventKind.TheVariants as kinds
@@ -96,21 +99,15 @@ can_bare : (r : ℕ) (o : Option Cell) → can r (bare o) ≡ can r o
 can_bare r None = refl
 can_bare r (Some c) = refl
 
-first_bare : (n a r : ℕ) (m : Map) → first_without r (without_bytes m) a n ≡ first_without r m a n
+first_bare : (m : Map) (r n a : ℕ) → first_without r (without_bytes m) a n ≡ first_without r m a n
 unfolding first_without
-first_bare zero a r m = refl
-first_bare (suc n) a r m =
-    (λ i. cond ((ap (can r) (get-without_bytes m a) ∙ can_bare r (get m a)) i) (first_bare n (next_address a) r m i) (Some a))
+first_bare m r zero a = refl
+first_bare m r (suc n) a =
+    (λ i. cond ((ap (can r) (get-without_bytes m a) ∙ can_bare r (get m a)) i) (first_bare m r n (next_address a) i) (Some a))
 
 -- a reply rests on the rights of cells alone
 pub reply_bare : (m : Map) (heap : Option Heap) (left a7 a0 a1 a2 : ℕ) → reply_to (without_bytes m) heap left a7 a0 a1 a2 ≡ reply_to m heap left a7 a0 a1 a2
-unfolding reply_to
-reply_bare m heap left a7 a0 a1 a2 =
-    (λ i. if a7 == 63 then (if a0 == 0 then if_none (first_bare (min a2 left) a1 write m i) (Moves (min a2 left)) else Answers bad_descriptor)
-    else if a7 == 64 then (if (a0 == 1) || (a0 == 2) then if_none (first_bare a2 a1 read m i) (Answers a2) else Answers bad_descriptor)
-    else if (a7 == 93) || (a7 == 94) then Exits a0
-    else if a7 == 214 then break_reply heap a0
-    else Answers no_such_call)
+reply_bare m heap left a7 a0 a1 a2 = rests_on_rights (without_bytes m) m (first_bare m) heap left a7 a0 a1 a2
 
 -- ---- conditions
 

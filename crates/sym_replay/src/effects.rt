@@ -8,11 +8,10 @@ ghost use Rattle.term_arena.specs.Trees.{Extends};
 ghost use Rattle.normal_form.specs.Norm.{norm};
 ghost use Rattle.rv_decode.specs.Rows.{IsWellFormed};
 ghost use Rattle.rv_decode.specs.Table.{decoded};
-ghost use Rattle.rv_machine.specs.State.{bits as bits_of};
 ghost use Rattle.replay_law.specs.Terms.{put_reg, put_trees, with_tree};
 ghost use Rattle.replay_law.specs.Terms as definitions;
 ghost use Rattle.replay_law.specs.Forms.{byte_term as byte_of_term};
-ghost use Rattle.call_replies.specs.Replies.{reply_of, moved, IsOfHeap};
+ghost use Rattle.call_replies.specs.Replies.{moved, IsOfHeap};
 ghost use Rattle.sym_replay.specs.Values.{value_tree, IsValueIn, IsValueOf};
 ghost use Rattle.sym_replay.specs.States.{terms_of, register_tree, IsState};
 
@@ -22,7 +21,7 @@ use call_replies::{Reply, reply_to};
 use no_memory::NoMemory;
 use rv_decode::{Instr, Width};
 use rv_event::Event;
-use rv_word::AluOp;
+use rv_word::{AluOp, bits};
 use term_arena::{Arena, Op};
 
 /// A value whose sign stands `distance` bits below bit 31, extended.
@@ -34,14 +33,6 @@ fn extended(arena: &mut Arena, v: &Value, distance: u32) -> Result<Value, NoMemo
     let amount = Value::Known(distance);
     let left = made(arena, Op::Alu(AluOp::Sll), v, &amount)?;
     made(arena, Op::Alu(AluOp::Sra), &left, &amount)
-}
-
-/// An integer as a word, in two's complement.
-#[tactic(auto, using(rv_word::proofs::Words::word_is))]
-pub(crate) fn bits(integer: i32) -> u32
-    ensures { result ≡ bits_of integer }
-{
-    integer.cast_unsigned()
 }
 
 impl ReplayState {
@@ -287,7 +278,7 @@ impl ReplayState {
         requires fits { self.old.place + moved reply < 2 ^ 32 }
         ensures state { OnOk result (IsState arena.new self.new) }
         ensures terms { OnOk result (terms_of arena.new self.new
-            ≡ definitions.after_reply (terms_of arena.old self.old) event.now (reply_of reply)) }
+            ≡ definitions.after_reply (terms_of arena.old self.old) event.now reply) }
         ensures place { OnOk result (self.new.place ≡ self.old.place + moved reply) }
         ensures keeps { Extends arena.old arena.new }
     {

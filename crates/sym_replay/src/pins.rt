@@ -17,14 +17,13 @@ ghost use Rattle.sym_replay.specs.Values.{value_tree, IsValueIn};
 ghost use Rattle.sym_replay.specs.States.{terms_of, register_tree, IsState};
 ghost use Rattle.sym_replay.specs.Pins.{Adds, call_conditions, IsTarget, IsKnownTarget};
 
-use crate::effects::bits;
 use crate::state::ReplayState;
 use crate::value::{Value, are_same_number, made};
 use no_memory::NoMemory;
 use path_condition::Conditions;
 use rv_decode::{Cond, Instr};
 use rv_event::{Event, EventKind};
-use rv_word::{AluOp, byte_of};
+use rv_word::{AluOp, bits, byte_of};
 use term_arena::{Arena, Op};
 
 /// Whether a number is a target once its lowest bit is cleared.

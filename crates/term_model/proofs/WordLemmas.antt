@@ -4,7 +4,7 @@ use Rattle.std.specs.Int.{from_bool}
 use Rattle.std.proofs.lemmas.Nat.{and_le_l, and_le_r, or_of_32, xor_of_32, shr_le, div_below, mul-lt}
 use Rattle.std.proofs.lemmas.Bool.Decides.{nat_tests}
 use Rattle.rv_word.specs.Word.{alu}
-use Rattle.rv_word.proofs.Words.{word_below}
+use Rattle.rv_word.proofs.Words.{bits_below}
 use Rattle.rv_word.specs.declared.AluOp.{AluOp}
 use Rattle.rv_word.specs.declared.AluOp.TheVariants.{Add, Sub, Sll, Slt, Sltu, Xor, Srl, Sra, Or, And, Mul, Mulh, Mulhsu, Mulhu, Div, Divu, Rem, Remu}
 use Rattle.term_model.specs.declared.Op.{Op}
@@ -47,16 +47,16 @@ alu_below Slt a b h k = omega (arith, bit_below)
 alu_below Sltu a b h k = omega (arith, bit_below)
 alu_below Xor a b h k = xor_of_32 a b h k
 alu_below Srl a b h k = omega (arith, shr_le a (b % 32))
-alu_below Sra a b h k = word_below _
+alu_below Sra a b h k = bits_below _
 alu_below Or a b h k = or_of_32 a b h k
 alu_below And a b h k = omega (arith, and_le_l a b)
 alu_below Mul a b h k = omega arith
-alu_below Mulh a b h k = word_below _
-alu_below Mulhsu a b h k = word_below _
+alu_below Mulh a b h k = bits_below _
+alu_below Mulhsu a b h k = bits_below _
 alu_below Mulhu a b h k = div_below (a * b) (2 ^ 32) (2 ^ 32) (omega arith) (mul-lt a b (2 ^ 32) (2 ^ 32) h k)
-alu_below Div a b h k = either_below (b == 0) _ _ (omega arith) (word_below _)
+alu_below Div a b h k = either_below (b == 0) _ _ (omega arith) (bits_below _)
 alu_below Divu a b h k = either_below (b == 0) _ _ (omega arith) (quotient_below a b h)
-alu_below Rem a b h k = either_below (b == 0) _ _ h (word_below _)
+alu_below Rem a b h k = either_below (b == 0) _ _ h (bits_below _)
 alu_below Remu a b h k = either_below (b == 0) _ _ h (remainder_below a b h)
 
 -- so does each operation

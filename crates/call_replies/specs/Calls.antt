@@ -4,14 +4,8 @@ use Rattle.std.specs.Prelude.{ℕ, ◌-◌, ◌^◌, ◌==◌, ◌||◌, min, if
 use Rattle.memory_map.specs.Cells.{Map, first_without, read, write}
 use Rattle.memory_map.specs.declared.heap.Heap.{Heap}
 use Rattle.memory_map.specs.Heaps.{may_break}
-
--- an answer in a0 alone, the next bytes of the input moved to a1 and counted in a0, the heap's break moved to an address that is the
--- answer, or the end with a code
-pub data Reply : Type 0 where
-  Answers : ℕ → Reply
-  Moves : ℕ → Reply
-  Breaks : Heap → ℕ → Reply
-  Exits : ℕ → Reply
+use Rattle.call_replies.specs.declared.Reply.{Reply}
+use Rattle.call_replies.specs.declared.Reply.TheVariants.{Answers, Moves, Breaks, Exits}
 
 -- -9 as a word: no such descriptor
 abbrev pub bad_descriptor : ℕ
