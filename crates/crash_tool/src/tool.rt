@@ -153,8 +153,8 @@ pub fn run_tool<F: Folder, O: Sink, E: Sink>(
         OfRight (IsAnswerTo (asked_of (map string_bytes words.now)) held) (λ answer.
         Gives answer (change O.holds O.faults out.old out.new) (change E.holds E.faults err.old err.new) result)) }
 
-    // The folder is asked for the program, and where that is read whole for the second file, each
-    // once and with its limit; and for nothing else.
+    // The folder is asked for the program and then for the second file, each at most once and with
+    // its limit, and for nothing else.
     ensures asked { AsksFor (asked_of (map string_bytes words.now)) (F.files folder.old) (Rose (F.faults folder.old) (F.faults folder.new))
         (F.asked folder.old) (F.asked folder.new) result }
 
