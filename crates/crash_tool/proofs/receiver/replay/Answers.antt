@@ -27,4 +27,4 @@ returns-clause-answer c =
     inl (passes (by_replay its) (replay_answer c.args.program.now) c.args.text.now
     (content_of c.in_ok-report.report) c.in_ok-report.ensures.read (replayed c.args.program.now (content_of c.in_ok-report.report)) refl _ (Ok c.in_ok-run_text.field-0)
     c.in_ok-run.ensures.replayed (ap Ok (c.in_ok-run_text.ensures its ran.0 ran.1
-    (c.in_ok-run.ensures.watch ∙ ap (λ start. fold (both_after covered_after last_after) start its.events) c.no_counters.ensures))))
+    (c.in_ok-run.ensures.watch ∙ ap (λ start. fold (both_after covered_after last_after) start its.events) c.no_counters-counters.ensures))))

@@ -25,4 +25,4 @@ returns-clause-answer c =
     (c.in_ok-run_text.ensures (transcript_of p c.args.input.now c.args.options.steps)
     (c.in_ok-run.ensures.end ∙ its-end p c.args.input.now c.args.options.steps _ state)
     (c.in_ok-run.ensures.steps ∙ ap length (its-events p c.args.input.now c.args.options.steps _ state))
-    (c.in_ok-run.ensures.watch ∙ (λ i. follow (c.no_counters.ensures i) (its-events p c.args.input.now c.args.options.steps _ state i)))))
+    (c.in_ok-run.ensures.watch ∙ (λ i. follow (c.no_counters-counters.ensures i) (its-events p c.args.input.now c.args.options.steps _ state i)))))
