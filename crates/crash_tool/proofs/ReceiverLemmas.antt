@@ -1,11 +1,14 @@
 -- From a report that was read, and what became of it, to the answer.
-use Rattle.std.proofs.Common.{◌≡◌, ◌≢◌, ◌∙◌, ℕ, Bool, true, false, List, Option, Some, None, option_map, Result, Ok, Err, refl, sym, ap, subst, inl, inr}
+use Rattle.std.proofs.Common.{◌≡◌, ◌≢◌, ◌∙◌, ℕ, Bool, true, false, nat_lt, List, length, Option, Some, None, Result, Ok, Err, refl, sym, ap, subst, inl, inr}
 use Rattle.std.specs.Prelude.{if◌then◌else◌}
 use Rattle.elf32.specs.declared.error.ElfError.{ElfError}
 use Rattle.elf32.specs.declared.error.ElfError.TheVariants as rules
 use Rattle.elf32.specs.declared.image.Image.{Image}
 use Rattle.elf32.specs.Rules.{refusal}
 use Rattle.elf32.specs.Loads.{IsImageOf, loaded_program, program_of}
+use Rattle.rv_event.specs.declared.event.End.{End}
+use Rattle.rv_event.specs.declared.event.End.TheVariants as ends
+use Rattle.rv_event.specs.Same.{same_end}
 use Rattle.rv_machine.specs.declared.trace.Run.{Run}
 use Rattle.rv_machine.specs.Trace.{transcript_of}
 use Rattle.report_format.specs.declared.error.ReadError.{ReadError}
@@ -14,7 +17,7 @@ use Rattle.report_format.specs.Text.{Content}
 use Rattle.report_format.specs.Reading.{IsTextOf, IsRefusal}
 use Rattle.receiver_replay.specs.declared.error.ReceiveError.{ReceiveError}
 use Rattle.receiver_replay.specs.declared.error.ReceiveError.TheVariants.{WrongProgram, Program, StillRunning, NoCrash, Spent, Differs, NoMemory}
-use Rattle.receiver_replay.specs.Received.{is_its_program, unless_refused, by_trap, its_run, replayed, NamesRule, IsBut as IsThisBut}
+use Rattle.receiver_replay.specs.Received.{program_refusal, unless_refused, by_steps, by_trap, its_run, replayed, NamesRule, IsBut as IsThisBut}
 use Rattle.tool_words.specs.declared.words.Options.{Options}
 use Rattle.crash_tool.specs.declared.answer.Refusal.{Refusal}
 use Rattle.crash_tool.specs.declared.answer.Refusal.TheVariants.{NotAReport, NoMemory as WantOfMemory}
@@ -69,24 +72,35 @@ module _ {T : Type 0} (by : Result T ReceiveError → Answer) (answer_of : Resul
 
 -- ---- runs
 
--- a file that was run is a program
-pub is-unbroken : (p : List ℕ) (report : Content) (run : Run) → IsThisBut (replayed p report) (Ok run) → refusal p ≡ None
+-- a run that is the report's is the program's run on its input
+pub is-its-run : (p : List ℕ) (report : Content) (run : Run) → IsThisBut (replayed p report) (Ok run)
+    → (run.end ≡ (its_run p report report.steps).end) × (run.steps ≡ length (its_run p report report.steps).events)
 unfolding replayed
-is-unbroken p report run (inl ran) = of_refusal (is_its_program p report) (refusal p) refl (sym ran)
+is-its-run p report run (inl ran) = unless (program_refusal p report) (sym ran)
   where
-    of_refusal : (b : Bool) (rule : Option ElfError) → rule ≡ refusal p
-        → unless_refused (if b then option_map Program rule else Some WrongProgram) (by_trap report (its_run p report report.steps)) ≡ Ok run → refusal p ≡ None
-    of_refusal true None is ran = sym is
-    of_refusal true (Some rule) is ran = cc
-    of_refusal false rule is ran = cc
-is-unbroken p report run (inr wanted) = cc
+    end_or : Result Run ReceiveError → End
+    end_or (Ok run) = run.end
+    end_or (Err e) = (its_run p report report.steps).end
 
--- a program's image is refused for want of memory alone
-pub kept-refused : (p : List ℕ) (rule : ElfError) (r : Refusal) → refusal p ≡ None → IsOfRule rule r → (rule ≢ rules.NoMemory → refusal p ≡ Some rule) → ◌≡◌ {A = Answer} (Err r) (Err WantOfMemory)
-kept-refused p rule r kept (inl is) broken =
-    let other = sym kept ∙ broken is.0 in
-    cc
-kept-refused p rule r kept (inr is) broken = ap Err is.1
+    steps_or : Result Run ReceiveError → ℕ
+    steps_or (Ok run) = run.steps
+    steps_or (Err e) = 0
+
+    steps : (less : Bool) → (if less then Err (Differs 4) else Ok (record { steps = length (its_run p report report.steps).events; end = (its_run p report report.steps).end })) ≡ Ok run
+        → (run.end ≡ (its_run p report report.steps).end) × (run.steps ≡ length (its_run p report report.steps).events)
+    steps true is = cc
+    steps false is = (sym (ap end_or is), sym (ap steps_or is))
+
+    end : (same : Bool) → (if same then by_steps report (its_run p report report.steps) else Err (Differs 3)) ≡ Ok run
+        → (run.end ≡ (its_run p report report.steps).end) × (run.steps ≡ length (its_run p report report.steps).events)
+    end true is = steps (nat_lt (length (its_run p report report.steps).events) report.steps) is
+    end false is = cc
+
+    unless : (refused : Option ReceiveError) → unless_refused refused (by_trap report (its_run p report report.steps)) ≡ Ok run
+        → (run.end ≡ (its_run p report report.steps).end) × (run.steps ≡ length (its_run p report report.steps).events)
+    unless (Some e) is = cc
+    unless None is = end (same_end (its_run p report report.steps).end (ends.Trap report.trap)) is
+is-its-run p report run (inr wanted) = cc
 
 -- the run of an image is that of the file that it was read from
 pub run-of-image : (p x : List ℕ) (limit : ℕ) (image : Image) → IsImageOf p image → transcript_of (program_of image) x limit ≡ transcript_of (loaded_program p) x limit

@@ -13,4 +13,3 @@ mod receiver;
 mod run_text;
 pub mod say;
 pub mod tool;
-mod watched_run;

@@ -1,10 +1,7 @@
 //! The answers to a receiver, who has a program and the text of a report, and the run of a program.
 
-ghost use Rattle.std.specs.Prelude.{◌≡◌, ◌≤◌, None, Ok, length, IfOk, IfErr};
+ghost use Rattle.std.specs.Prelude.{◌≡◌, ◌≤◌, length, IfOk, IfErr};
 ghost use Rattle.elf32.specs.Rules.{refusal};
-ghost use Rattle.report_format.specs.Text.{content_of};
-ghost use Rattle.receiver_replay.specs.Received.{its_run};
-ghost use Rattle.crash_tool.specs.RunText.{run_text};
 ghost use Rattle.crash_tool.specs.Answers.{run_answer};
 ghost use Rattle.crash_tool.specs.Made.{transcript_under};
 ghost use Rattle.crash_tool.specs.Received.{IsByReading, replay_answer, check_answer, IsAccepted};
@@ -12,12 +9,14 @@ ghost use Rattle.tool_words.specs.Words.{AreWithin};
 ghost use Rattle.crash_tool.specs.Call.{IsBut, IsOfFiles};
 
 use crate::answer::Answer;
-use crate::run_text::tell_run;
+use crate::run_text::{no_counters, run_text};
 use elf32::read_image;
 use receiver_replay::{check_report, replay_report};
-use report_format::{Bytes, Report, read_report};
+use report_format::{Bytes, read_report};
+use rv_machine::Machine;
 use std::alloc::Global;
 use tool_words::Options;
+use watched_run::watch_run;
 
 /// The run of a program on an input, however it ends.
 pub fn run(alloc: Global, program: &[u8], options: Options, input: &[u8]) -> Answer
@@ -27,18 +26,10 @@ pub fn run(alloc: Global, program: &[u8], options: Options, input: &[u8]) -> Ans
     ensures kind { IfErr result IsOfFiles }
 {
     let image = read_image(alloc, program)?;
-    Ok(tell_run(alloc, &image, input, options.steps)?)
-}
-
-/// The run of a program on a report's input.
-fn run_its_input(alloc: Global, program: &[u8], report: &Report) -> Answer
-    requires unbroken { refusal program.now ≡ None }
-    ensures answer { IsBut (λ answer.
-        answer ≡ Ok (run_text (its_run program.now (content_of report.now) report.now.steps))) result }
-    ensures kind { IfErr result IsOfFiles }
-{
-    let image = read_image(alloc, program)?;
-    Ok(tell_run(alloc, &image, report.input.as_slice(), report.steps)?)
+    let mut machine = Machine::start(alloc, &image)?;
+    let mut counters = no_counters(alloc);
+    let run = watch_run(&mut machine, input, options.steps, &mut counters)?;
+    Ok(run_text(alloc, run, &counters)?)
 }
 
 /// The run on a report's input, where the run is the report's.
@@ -47,8 +38,9 @@ pub fn replay(alloc: Global, program: &[u8], text: &[u8]) -> Answer
     ensures kind { IfErr result IsOfFiles }
 {
     let report = read_report(alloc, text)?;
-    replay_report(alloc, program, &report)?;
-    run_its_input(alloc, program, &report)
+    let mut counters = no_counters(alloc);
+    let run = replay_report(alloc, program, &report, &mut counters)?;
+    Ok(run_text(alloc, run, &counters)?)
 }
 
 /// Whether a report is the one that the program gives on the report's input.

@@ -16,6 +16,16 @@ use Rattle.receiver_replay.specs.declared.error.ReceiveError.{ReceiveError}
 use Rattle.receiver_replay.specs.declared.error.ReceiveError.TheVariants.{Differs}
 use Rattle.receiver_replay.specs.Received.{program_refusal, unless_refused, its_run, by_trap, by_steps, replayed, IsBut}
 
+-- a run from the start of the image is the program's run on the report's input
+from_start : (p : List ℕ) (image : Image) (state : State) → IsImageOf p image → state ≡ start image.entry image.segments
+    → state ≡ start (loaded_program p).entry (loaded_program p).segments
+from_start p image state is at = at ∙ (λ i. start (is.entry i) (is.segments i))
+
+pub its_events : (p : List ℕ) (r : Content) (image : Image) (state : State) → IsImageOf p image → state ≡ start image.entry image.segments
+    → (trace_from r.steps r.input state).events ≡ (its_run p r r.steps).events
+unfolding transcript_of
+its_events p r image state is at = ap (λ s. (trace_from r.steps r.input s).events) (from_start p image state is at)
+
 -- what a machine's run tells is what the program's transcript tells
 record IsRun (p : List ℕ) (r : Content) (run : Run) : Type 0 where
   steps : run.steps ≡ length (its_run p r r.steps).events
@@ -25,7 +35,7 @@ is_run : (p : List ℕ) (r : Content) (image : Image) (state : State) (run : Run
     → run.steps ≡ length (trace_from r.steps r.input state).events → run.end ≡ (trace_from r.steps r.input state).end → IsRun p r run
 unfolding transcript_of
 is_run p r image state run is at steps end =
-    let from : state ≡ start (loaded_program p).entry (loaded_program p).segments = at ∙ (λ i. start (is.entry i) (is.segments i)) in
+    let from = from_start p image state is at in
     record { steps = steps ∙ ap (λ s. length (trace_from r.steps r.input s).events) from; end = end ∙ ap (λ s. (trace_from r.steps r.input s).end) from }
 
 abbrev told : End → Transcript
