@@ -1,15 +1,16 @@
 //! What follows from the definitions of the answers alone.
 
-ghost use Rattle.std.specs.Prelude.{◌≡◌, ◌<◌, ℕ, List, length, All, Option};
+ghost use Rattle.std.specs.Prelude.{◌≡◌, ◌<◌, ◌≤◌, ℕ, List, length, All, Ok, Option};
 ghost use Rattle.fault_io.specs.Files.{Files};
 ghost use Rattle.elf32.specs.Loads.{loaded_program};
 ghost use Rattle.report_laws.specs.Made.{first_input};
 ghost use Rattle.crash_tool.specs.Refusals.{Answer};
 ghost use Rattle.tool_words.specs.declared.words.Options.{Options};
-ghost use Rattle.tool_words.specs.Words.{Asked};
+ghost use Rattle.tool_words.specs.Words.{AreWithin, Asked};
 ghost use Rattle.crash_tool.specs.Answers.{IsAnswerTo};
 ghost use Rattle.crash_tool.specs.Made.{transcript_under};
 ghost use Rattle.crash_tool.specs.Outcome.{outcome};
+ghost use Rattle.crash_tool.specs.Received.{IsByReading, check_answer, check_line};
 
 /// Two inputs of equal length and trace have one outcome: equal bytes on out and on err, and an
 /// equal status.
@@ -33,4 +34,18 @@ pub fn words_and_files_have_one_answer()
     report_text_laws::a_text_has_one_report();
     report_text_laws::a_text_fails_at_one_line();
     rv_assemble::code_has_one_file();
+}
+
+/// What `make` writes, `check` accepts: where the outcome of a program and an input under some options is
+/// a text, the answer to `check` of that text and the same program is `check ok`, under as many steps and
+/// as many conflicts or more, and under any seed.
+pub fn what_make_writes_is_accepted()
+    ensures { (p x text : List ℕ) (o more : Options) →
+        All (λ byte. byte < 256) p → All (λ byte. byte < 256) x → AreWithin o →
+        o.steps ≤ more.steps → o.conflicts ≤ more.conflicts →
+        outcome p o (length x) (transcript_under p o x) ≡ Ok text →
+        IsByReading (check_answer p more) text (Ok check_line) }
+{
+    report_laws::reports_of_runs_are_in_range();
+    receiver_replay::laws::a_report_that_is_made_is_accepted();
 }

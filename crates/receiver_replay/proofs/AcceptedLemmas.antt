@@ -18,11 +18,12 @@ use Rattle.set_laws.specs.Spent.{wide_groups, conflicts_in, first_spent, place_a
 use Rattle.report_format.specs.Text.{Content, lines}
 use Rattle.report_laws.specs.Mask.{mask}
 use Rattle.report_laws.specs.Made.{spent_of, first_input, report_of}
+use Rattle.report_laws.proofs.RangeLemmas.{events_within}
 use Rattle.report_laws.proofs.ClassLemmas.{input_has_trace}
 use Rattle.receiver_replay.specs.Difference.{first_difference}
 use Rattle.receiver_replay.specs.Received.{is_its_program, program_refusal, unless_refused, its_run, by_difference, by_spent, by_end, checked}
 use Rattle.receiver_replay.proofs.DifferenceLemmas.{no_difference}
-use Rattle.receiver_replay.proofs.LimitLemmas.{more_limit, limit_bounds, same_report}
+use Rattle.receiver_replay.proofs.LimitLemmas.{more_limit, same_report}
 
 -- ---- budgets
 
@@ -83,4 +84,4 @@ module _ (p x : List ℕ) (seed limit budget steps conflicts : ℕ) (trap : Trap
   made_is_accepted =
       accept p (report_of p seed limit t trap) steps conflicts t trap (unrefused p (report_of p seed limit t trap) refl refl unbroken) again end
       (more_conflicts (conditions_of (loaded_program p) t) (mask seed t.n) t.n budget conflicts less unspent)
-      (same_report p seed t trap limit steps more ended (limit_bounds (loaded_program p) x limit))
+      (same_report p seed t trap limit steps more ended (events_within (loaded_program p) x limit))

@@ -12,6 +12,7 @@ use Rattle.report_format.specs.Text.{Content, IsReport, lines}
 use Rattle.report_format.proofs.LineLemmas.{choice-bytes}
 use Rattle.report_laws.specs.Made.{spent_of, report_of}
 use Rattle.report_laws.proofs.ClassLemmas.{length_told}
+use Rattle.report_laws.proofs.RangeLemmas.{crash}
 use Rattle.report_text_laws.proofs.Lines.{lines-tell}
 use Rattle.receiver_replay.specs.declared.error.ReceiveError.{ReceiveError}
 use Rattle.receiver_replay.specs.declared.error.ReceiveError.TheVariants.{Differs}
@@ -19,7 +20,6 @@ use Rattle.receiver_replay.specs.Difference.{first_difference}
 use Rattle.receiver_replay.specs.Received.{its_run, by_difference, by_spent, IsBut}
 use Rattle.receiver_replay.specs.Right.{IsRight}
 use Rattle.receiver_replay.proofs.DifferenceLemmas.{same_lines}
-use Rattle.receiver_replay.proofs.RightLemmas.{crash}
 
 -- the numbers of a slice of bytes
 pub are_bytes : (xs : List ℕ) → ((i : ℕ) → Fits w8 (get_or xs i 0)) → All (λ byte. byte < 256) xs

@@ -19,17 +19,6 @@ use Rattle.report_laws.proofs.ClassLemmas.{length_told, input_comes_first, input
 use Rattle.receiver_replay.specs.Received.{its_run}
 use Rattle.receiver_replay.specs.Right.{IsRight}
 
-trapped : (end : End) (trap : Trap) → end ≡ ends.Trap trap → IsTrapped end
-trapped end trap is = subst IsTrapped (sym is) tt
-
--- an input whose run a trap ended
-pub crash : (program : Program) (limit : ℕ) (x : List ℕ) (trap : Trap) → All (λ byte. byte < 256) x → (transcript_of program x limit).end ≡ ends.Trap trap → IsCrash program limit x (transcript_of program x limit)
-crash program limit x trap low end = record {
-  input = record { long = sym (length_told program limit x (transcript_of program x limit) refl); in_range = low };
-  trace = refl;
-  trapped = trapped (transcript_of program x limit).end trap end;
-}
-
 -- a report whose own run is known
 right_by : (p : List ℕ) (r : Content) (limit : ℕ) (t : Transcript) → refusal p ≡ None → its_run p r limit ≡ t → t.end ≡ ends.Trap r.trap → length t.events ≡ r.steps
     → IsFirst (length r.input) (mask r.seed (length r.input)) (in_class (loaded_program p) limit t) r.input → r.sets ≡ sets_of (loaded_program p) r.seed limit t

@@ -45,18 +45,6 @@ pub divided_along : (image : Image) (p : List ℕ) (t : Transcript) (trees : Lis
 divided_along image p t trees groups given entry segments is divided =
     subst (AreDivided trees (conditions_of (loaded_program p) t) t.n) (sym is) (subst (λ q. AreDivided trees (conditions_of q t) t.n groups) (same_program image p entry segments) divided)
 
--- a run that a trap ended has an event
-some_events : (limit : ℕ) (x : List ℕ) (s : State) → IsTrapped (trace_from limit x s).end → 0 < length (trace_from limit x s).events
-unfolding trace_from
-some_events zero x s trapped = absurd trapped
-some_events (suc limit) x s trapped = omega arith
-
-pub crash_has_events : (program : Program) (limit : ℕ) (x : List ℕ) (t : Transcript) → IsCrash program limit x t → 0 < length t.events
-unfolding transcript_of
-crash_has_events program limit x t crash =
-    subst (λ (run : Transcript). 0 < length run.events) (sym crash.trace)
-    (some_events limit x (start program.entry program.segments) (subst (λ (run : Transcript). IsTrapped run.end) crash.trace crash.trapped))
-
 -- the conflicts of all groups are those of the wide ones
 pub wide_sum : (trees : List Tree) (order : List ℕ) (groups : List Group)
     → sum_by (conflicts_at trees order) groups ≡ sum_by (group_conflicts trees order) (filter (λ g. is_wide g.places) groups)
