@@ -15,7 +15,7 @@ use Rattle.rv_event.specs.declared.event.Trap.{Trap}
 use Rattle.rv_event.specs.declared.event.TrapKind.TheVariants as traps
 use Rattle.rv_machine.specs.State.{State, Next, Goes, Ends, reg, write_reg, at, following, bits, trap, start}
 use Rattle.rv_machine.specs.Calls.{Reply, Answers, Moves, Breaks, Exits, bad_descriptor, no_such_call, if_none, read_reply, write_reply, break_reply, reply_to}
-use Rattle.rv_machine.specs.Effects.{jump, exit, taken, size_of, address_of, even, after_load, after_store, after_call, effect, executed, after_fetch, step}
+use Rattle.rv_machine.specs.Effects.{jump, taken, size_of, address_of, even, after_load, after_store, after_call, effect, executed, after_fetch, step}
 use Rattle.rv_machine.specs.Trace.{onward, trace_from, transcript_of}
 use Rattle.machine_laws.specs.Kept.{IsState, Keeps}
 use Rattle.machine_laws.proofs.Bytes.{Bytes, word_fits}

@@ -1,5 +1,5 @@
 -- A run that has ended is the same under a greater limit of steps, and so are its class and its report.
-use Rattle.std.proofs.Common.{◌≡◌, ◌∙◌, ◌≤◌, ℕ, zero, suc, Bool, true, false, List, [], ◌∷◌, length, refl, sym, ap, arith}
+use Rattle.std.proofs.Common.{◌≡◌, ◌∙◌, ◌≤◌, ℕ, zero, suc, Bool, true, false, List, [], length, refl, sym, ap, arith}
 use Rattle.std.specs.Prelude.{unwrap_or}
 use mathlib.Core.Path.{fun_ext}
 use Rattle.elf32.specs.Loads.{Program, loaded_program}

@@ -1,14 +1,12 @@
 -- What a report says of a run is right.
 use Rattle.std.proofs.Common.{◌≡◌, ◌∙◌, ◌≤◌, ◌<◌, ◌*◌, ◌^◌, ℕ, List, None, length, refl, sym, ap, subst, All}
 use Rattle.elf32.specs.Rules.{refusal}
-use Rattle.elf32.specs.Loads.{Program, loaded_program}
-use Rattle.rv_event.specs.declared.event.End.{End}
+use Rattle.elf32.specs.Loads.{loaded_program}
 use Rattle.rv_event.specs.declared.event.End.TheVariants as ends
 use Rattle.rv_event.specs.declared.event.Trap.{Trap}
 use Rattle.rv_event.specs.declared.transcript.Transcript.{Transcript}
 use Rattle.rv_machine.specs.Trace.{transcript_of}
 use Rattle.rv_machine.specs.Class.{in_class}
-use Rattle.replay_law.specs.Crash.{IsProgram, IsTrapped, IsCrash}
 use Rattle.input_laws.specs.Inputs.{class_size}
 use Rattle.input_laws.specs.Order.{IsFirst}
 use Rattle.input_laws.specs.Sets.{IsChoice, revealed}

@@ -1,5 +1,5 @@
 -- What the report of a run says is within the ranges of a report text.
-use Rattle.std.proofs.Common.{◌≡◌, ◌≤◌, ◌<◌, ◌+◌, ◌*◌, ◌%◌, ◌^◌, ℕ, zero, suc, List, [], ◌++◌, length, refl, sym, subst, arith, All}
+use Rattle.std.proofs.Common.{◌≡◌, ◌≤◌, ◌<◌, ◌*◌, ◌^◌, ℕ, zero, suc, List, length, refl, sym, subst, arith, All}
 use Rattle.std.specs.Prelude.{slice_index}
 use Rattle.std.specs.Int.{w32, to_be_bytes}
 use Rattle.std.proofs.lemmas.List.{length-append}
@@ -13,7 +13,6 @@ use Rattle.rv_event.specs.declared.transcript.Transcript.{Transcript}
 use Rattle.rv_machine.specs.State.{State, start}
 use Rattle.rv_machine.specs.Trace.{trace_from, transcript_of}
 use Rattle.rv_machine.proofs.Traces.{trace_length}
-use Rattle.term_model.specs.Words.{AreBytes}
 use Rattle.term_model.proofs.ByteLemmas.{bytes_everywhere, bytes_within}
 use Rattle.replay_law.specs.Crash.{IsProgram, IsTrapped, IsCrash}
 use Rattle.input_laws.specs.Sets.{IsByteSet, IsChoice}

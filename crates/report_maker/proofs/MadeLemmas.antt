@@ -1,5 +1,5 @@
 -- The report that is made of the groups is the one that is stated.
-use Rattle.std.proofs.Common.{◌≡◌, ◌∙◌, ◌+◌, ◌<◌, ◌≤◌, ◌%◌, ℕ, zero, suc, Bool, true, false, List, [], ◌∷◌, length, map, Some, Result, Ok, Err, refl, sym, ap, subst, arith}
+use Rattle.std.proofs.Common.{◌≡◌, ◌∙◌, ◌+◌, ◌<◌, ◌%◌, ℕ, Bool, true, false, List, [], ◌∷◌, length, Some, Result, Ok, Err, refl, sym, ap, subst, arith}
 use Rattle.std.specs.Prelude.{None, filter, find, All, IfOk, option_map, sum_by, if◌then◌else◌}
 use Rattle.std.proofs.lemmas.List.Sums.{sum_by-cons}
 use Rattle.elf32.specs.declared.image.Image.{Image}
@@ -7,16 +7,13 @@ use Rattle.elf32.specs.Loads.{Program, loaded_program, program_of}
 use Rattle.elf32.proofs.Accepted.{same_program}
 use Rattle.rv_event.specs.declared.event.Trap.{Trap}
 use Rattle.rv_event.specs.declared.transcript.Transcript.{Transcript}
-use Rattle.rv_machine.specs.State.{State, start}
-use Rattle.rv_machine.specs.Trace.{trace_from, transcript_of}
 use Rattle.term_model.specs.Tree.{Tree}
 use Rattle.term_arena.specs.Trees.{trees_of}
-use Rattle.replay_law.specs.Crash.{IsProgram, IsTrapped, IsCrash, AreProper}
+use Rattle.replay_law.specs.Crash.{IsProgram, AreProper}
 use Rattle.trace_conditions.specs.Conditions.{conditions_of}
 use Rattle.input_laws.specs.Sets.{IsChoice}
 use Rattle.group_model.specs.declared.Group.{Group}
 use Rattle.group_model.specs.Conditions.{IsCondition}
-use Rattle.group_model.specs.Division.{AreGroups}
 use Rattle.set_laws.specs.Spent.{is_wide, place_and_width}
 use Rattle.set_laws.specs.Found.{group_conflicts, is_spent}
 use Rattle.report_format.specs.Text.{Content}

@@ -1,6 +1,6 @@
 -- The sets have bytes alone.
 use Rattle.std.proofs.Common.{ℕ, Bool, true, false, cond, List, [], ◌∷◌, length, get_or, ltb-true, All}
-use Rattle.std.specs.Prelude.{filter, nat_eq, nat_lt, slice_set}
+use Rattle.std.specs.Prelude.{nat_eq, nat_lt}
 use Rattle.std.specs.List.{range_with_len}
 use Rattle.std.proofs.lemmas.Bool.{and_parts}
 use Rattle.std.proofs.lemmas.List.Elements.{All-map}
