@@ -9,7 +9,8 @@ use Rattle.tool_words.specs.declared.words.Options.{Options}
 use Rattle.crash_tool.specs.declared.answer.Refusal.{Refusal}
 use Rattle.crash_tool.specs.declared.answer.Refusal.TheVariants.{NoMemory}
 use Rattle.crash_tool.specs.Call.{IsBut}
-use Rattle.crash_tool.specs.Made.{Made, made, transcript_under}
+use Rattle.report_maker.specs.Made.{Made}
+use Rattle.crash_tool.specs.Made.{made, transcript_under}
 use Rattle.crash_tool.specs.Demo.{case_lines, cost_lines, summary, summed, IsDemoAnswer}
 
 -- the lines of the two parts are those of the summary

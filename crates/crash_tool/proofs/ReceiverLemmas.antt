@@ -27,7 +27,7 @@ use Rattle.crash_tool.specs.Made.{transcript_under}
 use Rattle.crash_tool.specs.Answers.{run_answer}
 use Rattle.crash_tool.specs.Call.{IsBut, IsOfFiles}
 use Rattle.crash_tool.specs.Received.{IsByReading}
-use Rattle.crash_tool.proofs.MadeLemmas.{trace-of-image}
+use Rattle.report_maker.proofs.RunLemmas.{trace-of-image}
 
 -- ---- a report that is refused
 

@@ -9,7 +9,8 @@ use Rattle.report_format.specs.Text.{steps_line, revealed_line, joined}
 use Rattle.tool_words.specs.declared.words.Options.{Options}
 use Rattle.crash_tool.specs.declared.answer.Refusal.{Refusal}
 use Rattle.crash_tool.specs.Refusals.{Answer}
-use Rattle.crash_tool.specs.Made.{Made, made, transcript_under}
+use Rattle.report_maker.specs.Made.{Made}
+use Rattle.crash_tool.specs.Made.{made, transcript_under}
 
 abbrev pub kind_line : DemoKind → List ℕ
 kind_line Single = codes "demo single"

@@ -7,7 +7,8 @@ use Rattle.crash_tool.specs.declared.answer.Role.TheVariants.{Program, Input}
 use Rattle.crash_tool.specs.declared.answer.Refusal.{Refusal}
 use Rattle.crash_tool.specs.declared.answer.Refusal.TheVariants.{TooLong}
 use Rattle.crash_tool.specs.Refusals.{Answer}
-use Rattle.crash_tool.specs.Made.{Made, made}
+use Rattle.report_maker.specs.Made.{Made}
+use Rattle.crash_tool.specs.Made.{made}
 
 -- the text of the report that was made, or why there is none
 abbrev pub written : Result Made Refusal → Answer

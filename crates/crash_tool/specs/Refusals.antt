@@ -9,8 +9,8 @@ use Rattle.crash_tool.specs.declared.answer.Refusal.{Refusal}
 use Rattle.crash_tool.specs.declared.answer.Refusal.TheVariants.{NoMemory, Usage, CannotRead, TooLong, NotAProgram, NoCrash, StillRunning, Spent, NotAReport, WrongProgram, Differs}
 use Rattle.report_format.specs.declared.error.ReadError.{ReadError}
 use Rattle.report_format.specs.declared.error.ReadError.TheVariants as read
-use Rattle.report_maker.specs.declared.error.MakeError.{MakeError}
-use Rattle.report_maker.specs.declared.error.MakeError.TheVariants as make
+use Rattle.report_maker.specs.declared.error.ReportError.{ReportError}
+use Rattle.report_maker.specs.declared.error.ReportError.TheVariants as report
 use Rattle.receiver_replay.specs.declared.error.ReceiveError.{ReceiveError}
 use Rattle.receiver_replay.specs.declared.error.ReceiveError.TheVariants as receive
 use Rattle.tool_words.specs.declared.command.WordsError.{WordsError}
@@ -30,9 +30,12 @@ of_words words.Usage = Usage
 abbrev pub IsOfRule : ElfError → Refusal → Type 0
 IsOfRule rule refusal = ((rule ≢ rules.NoMemory) × (refusal ≡ NotAProgram rule)) ⊎ ((rule ≡ rules.NoMemory) × (refusal ≡ NoMemory))
 
-abbrev pub of_make : MakeError → Refusal
-of_make (make.Spent first width) = Spent first width
-of_make make.NoMemory = NoMemory
+abbrev pub of_report : ReportError → Refusal
+of_report (report.Program rule) = NotAProgram rule
+of_report report.StillRunning = StillRunning
+of_report report.NoCrash = NoCrash
+of_report (report.Spent first width) = Spent first width
+of_report report.NoMemory = NoMemory
 
 abbrev pub of_read : ReadError → Refusal
 of_read (read.Line line) = NotAReport line

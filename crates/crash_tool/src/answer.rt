@@ -4,14 +4,14 @@ ghost use Rattle.std.specs.Prelude.{◌≡◌, ◌≤◌, [], ◌∷◌, ◌++�
 ghost use Rattle.std.specs.Fmt.{decimal};
 ghost use Rattle.crash_tool.specs.declared.answer.Refusal.TheVariants.{NoMemory, NotAProgram, Spent};
 ghost use Rattle.crash_tool.specs.Refusals.{status_of, line_of};
-ghost use Rattle.crash_tool.specs.Refusals.{of_words, IsOfRule, of_make, of_read, of_receive};
+ghost use Rattle.crash_tool.specs.Refusals.{of_words, IsOfRule, of_report, of_read, of_receive};
 
 use arrayvec::ArrayString;
 use elf32::ElfError;
 use itoa::Buffer;
 use receiver_replay::ReceiveError;
 use report_format::{Bytes, ReadError};
-use report_maker::MakeError;
+use report_maker::ReportError;
 use std::alloc::AllocError;
 use tool_words::WordsError;
 
@@ -96,13 +96,16 @@ impl From<ElfError> for Refusal {
     }
 }
 
-impl From<MakeError> for Refusal {
-    ghost from_gives = { λ error refusal. refusal ≡ of_make error };
+impl From<ReportError> for Refusal {
+    ghost from_gives = { λ error refusal. refusal ≡ of_report error };
 
-    fn from(error: MakeError) -> Refusal {
+    fn from(error: ReportError) -> Refusal {
         match error {
-            MakeError::Spent { first, width } => Refusal::Spent { first, width },
-            MakeError::NoMemory => Refusal::NoMemory,
+            ReportError::Program(rule) => Refusal::NotAProgram(rule),
+            ReportError::StillRunning => Refusal::StillRunning,
+            ReportError::NoCrash => Refusal::NoCrash,
+            ReportError::Spent { first, width } => Refusal::Spent { first, width },
+            ReportError::NoMemory => Refusal::NoMemory,
         }
     }
 }

@@ -5,7 +5,7 @@ ghost use Rattle.std.specs.Fmt.{decimal};
 ghost use Rattle.std.specs.String.{string_bytes};
 ghost use Rattle.input_laws.specs.Sets.{revealed as bits};
 ghost use Rattle.report_format.specs.Text.{content_of, revealed_line, joined};
-ghost use Rattle.crash_tool.specs.Made.{made_value};
+ghost use Rattle.report_maker.specs.Made.{made_value};
 ghost use Rattle.crash_tool.specs.Demo.{kind_line, case_lines, cost_lines, summary, IsDemoAnswer};
 ghost use Rattle.tool_words.specs.Words.{AreWithin};
 ghost use Rattle.crash_tool.specs.Call.{IsBut, IsOfFiles};

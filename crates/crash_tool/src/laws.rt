@@ -1,15 +1,17 @@
 //! What follows from the definitions of the answers alone.
 
-ghost use Rattle.std.specs.Prelude.{◌≡◌, ◌<◌, ℕ, List, length, All, Option};
+ghost use Rattle.std.specs.Prelude.{◌≡◌, ◌<◌, ◌≤◌, ℕ, List, length, All, Ok, Option, Some};
 ghost use Rattle.fault_io.specs.Files.{Files};
 ghost use Rattle.elf32.specs.Loads.{loaded_program};
 ghost use Rattle.report_laws.specs.Made.{first_input};
 ghost use Rattle.crash_tool.specs.Refusals.{Answer};
 ghost use Rattle.tool_words.specs.declared.words.Options.{Options};
-ghost use Rattle.tool_words.specs.Words.{Asked};
-ghost use Rattle.crash_tool.specs.Answers.{IsAnswerTo};
+ghost use Rattle.tool_words.specs.declared.words.Action.TheVariants.{Make, Check};
+ghost use Rattle.tool_words.specs.Words.{AreWithin, Asked, Task};
+ghost use Rattle.crash_tool.specs.Answers.{IsAnswerTo, IsDone};
 ghost use Rattle.crash_tool.specs.Made.{transcript_under};
 ghost use Rattle.crash_tool.specs.Outcome.{outcome};
+ghost use Rattle.crash_tool.specs.Received.{IsByReading, check_answer, check_line};
 
 /// Two inputs of equal length and trace have one outcome: equal bytes on out and on err, and an
 /// equal status.
@@ -33,4 +35,25 @@ pub fn words_and_files_have_one_answer()
     report_text_laws::a_text_has_one_report();
     report_text_laws::a_text_fails_at_one_line();
     rv_assemble::code_has_one_file();
+}
+
+/// What `make` writes, `check` accepts: where the outcome of a program and an input under some options is
+/// a text, the answer to `check` of that text and the same program is `check ok`, under as many steps and
+/// as many conflicts or more, and under any seed. So it is over files that are held: no report is too long.
+pub fn what_make_writes_is_accepted()
+    ensures answer { (p x text : List ℕ) (o more : Options) →
+        All (λ byte. byte < 256) p → All (λ byte. byte < 256) x → AreWithin o →
+        o.steps ≤ more.steps → o.conflicts ≤ more.conflicts →
+        outcome p o (length x) (transcript_under p o x) ≡ Ok text →
+        IsByReading (check_answer p more) text (Ok check_line) }
+    ensures files { (p x text : List ℕ) (make check : Task) (held later : Files) →
+        All (λ byte. byte < 256) p → All (λ byte. byte < 256) x → AreWithin make.options →
+        make.options.steps ≤ check.options.steps → make.options.conflicts ≤ check.options.conflicts →
+        make.action ≡ Make → held make.program ≡ Some p → held make.second ≡ Some x → IsDone make held (Ok text) →
+        check.action ≡ Check → later check.program ≡ Some p → later check.second ≡ Some text →
+        IsDone check later (Ok check_line) }
+{
+    report_laws::reports_of_runs_are_in_range();
+    report_text_laws::a_text_fits_a_file();
+    receiver_replay::laws::a_report_that_is_made_is_accepted();
 }

@@ -1,15 +1,13 @@
-//! What is made of a program and an input.
+//! What is made of a program and an input under the options.
 
 ghost use Rattle.std.specs.Prelude.{◌≡◌, ◌⊎◌, ◌≤◌, Ok, Err, length, IfOk, IfErr};
-ghost use Rattle.crash_tool.specs.Made.{made, made_value, transcript_under};
+ghost use Rattle.report_maker.specs.Made.{made_value};
+ghost use Rattle.crash_tool.specs.Made.{made, transcript_under};
 ghost use Rattle.tool_words.specs.Words.{AreWithin};
 ghost use Rattle.crash_tool.specs.Call.{IsOfFiles};
 
 use crate::answer::Refusal;
-use elf32::read_image;
-use report_maker::{Made, make_report};
-use rv_event::End;
-use rv_machine::trace_of;
+use report_maker::Made;
 use std::alloc::Global;
 use tool_words::Options;
 
@@ -24,18 +22,12 @@ pub fn made(alloc: Global, program: &[u8], options: Options, input: &[u8]) -> Re
         (made program.now options (transcript_under program.now options input.now) ≡ Err refusal) ⊎ (refusal ≡ Refusal.NoMemory)) }
     ensures kind { IfErr result IsOfFiles }
 {
-    let image = read_image(alloc, program)?;
-    let transcript = trace_of(alloc, &image, input, options.steps)?;
-    match transcript.end {
-        End::Limit => Err(Refusal::StillRunning),
-        End::Exit(_) => Err(Refusal::NoCrash),
-        End::Trap(_) => Ok(make_report(
-            alloc,
-            &image,
-            program,
-            &transcript,
-            options.seed,
-            options.conflicts,
-        )?),
-    }
+    Ok(report_maker::made(
+        alloc,
+        program,
+        input,
+        options.seed,
+        options.steps,
+        options.conflicts,
+    )?)
 }

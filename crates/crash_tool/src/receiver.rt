@@ -51,6 +51,13 @@ pub fn check(alloc: Global, program: &[u8], options: Options, text: &[u8]) -> An
     ensures kind { IfErr result IsOfFiles }
 {
     let report = read_report(alloc, text)?;
-    check_report(alloc, program, &report, options.steps, options.conflicts)?;
+    check_report(
+        alloc,
+        program,
+        &report,
+        text,
+        options.steps,
+        options.conflicts,
+    )?;
     Ok(Bytes::from_vec(b"check ok\n".to_vec(alloc)?))
 }

@@ -4,3 +4,4 @@ pub mod Bytes
 pub mod Steps
 pub mod Starts
 pub mod Exits
+pub mod Traps

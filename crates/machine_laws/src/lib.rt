@@ -5,6 +5,7 @@ ghost use Rattle.std.specs.Prelude.{◌≡◌, ℕ, ◌<◌, ◌%◌, ◌^◌, L
 ghost use Rattle.elf32.specs.Loads.{Program};
 ghost use Rattle.elf32.specs.declared.segments.Segment.{Segment};
 ghost use Rattle.rv_event.specs.declared.event.End.TheVariants as ends;
+ghost use Rattle.rv_event.specs.declared.event.Trap.{Trap};
 ghost use Rattle.rv_machine.specs.State.{State, start};
 ghost use Rattle.rv_machine.specs.Effects.{step};
 ghost use Rattle.rv_machine.specs.Trace.{trace_from, transcript_of};
@@ -41,4 +42,13 @@ pub fn exits_are_below_128()
         (trace_from limit input s).end ≡ ends.Exit code → code < 128 }
     ensures program { (program : Program) (input : List ℕ) (limit code : ℕ) →
         (transcript_of program input limit).end ≡ ends.Exit code → code < 128 }
+{}
+
+/// The trap that ends a run on bytes has a word for its program counter and for its value, where the
+/// program's entry is a word and a multiple of 4 and its segments hold bytes.
+pub fn traps_are_of_words()
+    ensures { (program : Program) (input : List ℕ) (limit : ℕ) (trap : Trap) →
+        program.entry < 2 ^ 32 → program.entry % 4 ≡ 0 →
+        All (λ s. All (λ b. b < 256) s.bytes) program.segments → All (λ b. b < 256) input →
+        (transcript_of program input limit).end ≡ ends.Trap trap → (trap.pc < 2 ^ 32) × (trap.value < 2 ^ 32) }
 {}

@@ -1,5 +1,5 @@
 -- A run that has ended is the same under a greater limit of steps, and so are its class and its report.
-use Rattle.std.proofs.Common.{◌≡◌, ◌∙◌, ◌≤◌, ℕ, zero, suc, Bool, true, false, List, [], ◌∷◌, length, refl, sym, ap, arith}
+use Rattle.std.proofs.Common.{◌≡◌, ◌∙◌, ◌≤◌, ℕ, zero, suc, Bool, true, false, List, [], length, refl, sym, ap, arith}
 use Rattle.std.specs.Prelude.{unwrap_or}
 use mathlib.Core.Path.{fun_ext}
 use Rattle.elf32.specs.Loads.{Program, loaded_program}
@@ -40,15 +40,6 @@ fewer_steps (suc n) (suc m) x s ended few =
     by (Goes t) on less same = same t on (omega arith)
     by (Ends end) on less same = refl
 
-events_within : (n : ℕ) (x : List ℕ) (s : State) → length (trace_from n x s).events ≤ n
-unfolding trace_from
-events_within zero x s = omega arith
-events_within (suc n) x s = by (step x s).next (λ t. events_within n x t)
-  where
-    by : (next : Next) → ((t : State) → length (trace_from n x t).events ≤ n) → suc (length (onward (trace_from n x) next).events) ≤ suc n
-    by (Goes t) all = omega (arith, all t)
-    by (Ends end) all = omega arith
-
 abbrev told : List ℕ → Trace → Transcript
 told x run = record { n = length x; events = run.events; end = run.end }
 
@@ -59,10 +50,6 @@ more_limit program x n m le ended = ap (told x) (more_steps n m x (start program
 fewer_limit : (program : Program) (x : List ℕ) (n m : ℕ) → has_ended (transcript_of program x m).end ≡ true → length (transcript_of program x m).events ≤ n → transcript_of program x n ≡ transcript_of program x m
 unfolding transcript_of
 fewer_limit program x n m ended few = ap (told x) (fewer_steps n m x (start program.entry program.segments) ended few)
-
-pub limit_bounds : (program : Program) (x : List ℕ) (n : ℕ) → length (transcript_of program x n).events ≤ n
-unfolding transcript_of
-limit_bounds program x n = events_within n x (start program.entry program.segments)
 
 -- ---- classes
 

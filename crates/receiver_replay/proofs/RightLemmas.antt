@@ -1,14 +1,12 @@
 -- What a report says of a run is right.
 use Rattle.std.proofs.Common.{◌≡◌, ◌∙◌, ◌≤◌, ◌<◌, ◌*◌, ◌^◌, ℕ, List, None, length, refl, sym, ap, subst, All}
 use Rattle.elf32.specs.Rules.{refusal}
-use Rattle.elf32.specs.Loads.{Program, loaded_program}
-use Rattle.rv_event.specs.declared.event.End.{End}
+use Rattle.elf32.specs.Loads.{loaded_program}
 use Rattle.rv_event.specs.declared.event.End.TheVariants as ends
 use Rattle.rv_event.specs.declared.event.Trap.{Trap}
 use Rattle.rv_event.specs.declared.transcript.Transcript.{Transcript}
 use Rattle.rv_machine.specs.Trace.{transcript_of}
 use Rattle.rv_machine.specs.Class.{in_class}
-use Rattle.replay_law.specs.Crash.{IsProgram, IsTrapped, IsCrash}
 use Rattle.input_laws.specs.Inputs.{class_size}
 use Rattle.input_laws.specs.Order.{IsFirst}
 use Rattle.input_laws.specs.Sets.{IsChoice, revealed}
@@ -18,17 +16,6 @@ use Rattle.report_laws.specs.Made.{sets_of, first_input, report_of}
 use Rattle.report_laws.proofs.ClassLemmas.{length_told, input_comes_first, input_has_trace}
 use Rattle.receiver_replay.specs.Received.{its_run}
 use Rattle.receiver_replay.specs.Right.{IsRight}
-
-trapped : (end : End) (trap : Trap) → end ≡ ends.Trap trap → IsTrapped end
-trapped end trap is = subst IsTrapped (sym is) tt
-
--- an input whose run a trap ended
-pub crash : (program : Program) (limit : ℕ) (x : List ℕ) (trap : Trap) → All (λ byte. byte < 256) x → (transcript_of program x limit).end ≡ ends.Trap trap → IsCrash program limit x (transcript_of program x limit)
-crash program limit x trap low end = record {
-  input = record { long = sym (length_told program limit x (transcript_of program x limit) refl); in_range = low };
-  trace = refl;
-  trapped = trapped (transcript_of program x limit).end trap end;
-}
 
 -- a report whose own run is known
 right_by : (p : List ℕ) (r : Content) (limit : ℕ) (t : Transcript) → refusal p ≡ None → its_run p r limit ≡ t → t.end ≡ ends.Trap r.trap → length t.events ≡ r.steps

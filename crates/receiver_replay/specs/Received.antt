@@ -5,17 +5,17 @@ use Rattle.sha2.specs.Sha256.{sha256}
 use Rattle.elf32.specs.declared.error.ElfError.TheVariants as rules
 use Rattle.elf32.specs.Rules.{refusal}
 use Rattle.elf32.specs.Loads.{loaded_program}
-use Rattle.rv_event.specs.declared.event.End.{End}
 use Rattle.rv_event.specs.declared.event.End.TheVariants as ends
-use Rattle.rv_event.specs.declared.event.Trap.{Trap}
 use Rattle.rv_event.specs.declared.transcript.Transcript.{Transcript}
 use Rattle.rv_event.specs.Same.{same_end}
 use Rattle.rv_machine.specs.declared.trace.Run.{Run}
 use Rattle.rv_machine.specs.Trace.{transcript_of}
 use Rattle.report_format.specs.Text.{Content, lines}
-use Rattle.report_laws.specs.Made.{spent_of, report_of}
+use Rattle.report_maker.specs.declared.error.ReportError.{ReportError}
+use Rattle.report_maker.specs.Made.{Made, made}
 use Rattle.receiver_replay.specs.declared.error.ReceiveError.{ReceiveError}
-use Rattle.receiver_replay.specs.declared.error.ReceiveError.TheVariants.{WrongProgram, Program, StillRunning, NoCrash, Spent, Differs, NoMemory}
+use Rattle.receiver_replay.specs.declared.error.ReceiveError.TheVariants.{WrongProgram, Program, Differs, NoMemory}
+use Rattle.receiver_replay.specs.Errors.{error_of}
 use Rattle.receiver_replay.specs.Difference.{first_difference}
 
 -- ---- the program
@@ -57,21 +57,15 @@ abbrev pub by_difference : Option ℕ → Result (Unit {0}) ReceiveError
 by_difference (Some line) = Err (Differs line)
 by_difference None = Ok tt
 
--- by the first group of bytes that spends the conflicts, and then by the first line that another report has
-abbrev pub by_spent : List ℕ → Content → ℕ → Transcript → Trap → Option (ℕ × ℕ) → Result (Unit {0}) ReceiveError
-by_spent p report limit t trap (Some group) = Err (Spent group.0 group.1)
-by_spent p report limit t trap None = by_difference (first_difference 1 (lines report) (lines (report_of p report.seed limit t trap)))
+-- by what is made anew: why there is no report, or the first line that another one has
+abbrev pub by_made : Content → Result Made ReportError → Result (Unit {0}) ReceiveError
+by_made report (Err error) = Err (error_of error)
+by_made report (Ok what) = by_difference (first_difference 1 (lines report) (lines what.report))
 
--- by the end of the run
-abbrev pub by_end : List ℕ → Content → ℕ → ℕ → Transcript → End → Result (Unit {0}) ReceiveError
-by_end p report limit budget t ends.Limit = Err StillRunning
-by_end p report limit budget t (ends.Exit code) = Err NoCrash
-by_end p report limit budget t (ends.Trap trap) = by_spent p report limit t trap (spent_of (loaded_program p) report.seed t budget)
-
--- The report is the one that the run on its own input gives under its own seed.
+-- The report is the one that is made of the program and the report's own input, under its own seed.
 unfoldable pub checked : List ℕ → Content → ℕ → ℕ → Result (Unit {0}) ReceiveError
-checked p report limit budget =
-    unless_refused (program_refusal p report) (by_end p report limit budget (its_run p report limit) (its_run p report limit).end)
+checked p report steps conflicts =
+    if is_its_program p report then by_made report (made p report.seed steps conflicts (its_run p report steps)) else Err WrongProgram
 
 -- ---- what a call answers
 

@@ -1,7 +1,8 @@
-//! The first line at which two reports differ.
+//! The first line at which a text and a report differ.
 
 ghost use Rattle.std.specs.Prelude.{◌≡◌, ◌≤◌, IfOk};
-ghost use Rattle.report_format.specs.Text.{content_of, lines};
+ghost use Rattle.report_format.specs.Text.{Content, content_of, lines};
+ghost use Rattle.report_format.specs.Reading.{IsTextOf};
 ghost use Rattle.receiver_replay.specs.Difference.{first_difference, byte_difference, line_ends};
 
 use no_memory::NoMemory;
@@ -30,17 +31,14 @@ fn differing_line(left: &[u8], right: &[u8]) -> Option<u32>
     None
 }
 
-/// The first line of a report's text that is not that of another report's.
-pub fn first_difference(
-    alloc: Global,
-    report: &Report,
-    other: &Report,
-) -> Result<Option<u32>, NoMemory>
-    ensures { IfOk result (λ line. line ≡ first_difference 1 (lines (content_of report.now)) (lines (content_of other.now))) }
+/// The first line of a report's text that is not that of another report's. The first is given as the
+/// text that it is, and only the other is written.
+pub fn first_difference(alloc: Global, text: &[u8], other: &Report) -> Result<Option<u32>, NoMemory>
+    requires text { (content : Content) × IsTextOf content text.now }
+    ensures { IfOk result (λ line. (content : Content) → IsTextOf content text.now →
+        line ≡ first_difference 1 (lines content) (lines (content_of other.now))) }
 {
-    reports_are_in_range(report);
     reports_are_in_range(other);
-    let text = write_report(alloc, report)?;
     let others = write_report(alloc, other)?;
-    Ok(differing_line(text.as_slice(), others.as_slice()))
+    Ok(differing_line(text, others.as_slice()))
 }

@@ -5,7 +5,7 @@ ghost use Rattle.receiver_replay.specs.declared.error.ReceiveError.TheVariants.{
 ghost use Rattle.receiver_replay.specs.Errors.{error_of};
 
 use elf32::ElfError;
-use report_maker::MakeError;
+use report_maker::ReportError;
 use std::alloc::AllocError;
 use thiserror::Error;
 
@@ -52,13 +52,16 @@ impl From<AllocError> for ReceiveError {
     }
 }
 
-impl From<MakeError> for ReceiveError {
-    ghost from_gives = { λ m e. e ≡ error_of m };
+impl From<ReportError> for ReceiveError {
+    ghost from_gives = { λ r e. e ≡ error_of r };
 
-    fn from(error: MakeError) -> ReceiveError {
+    fn from(error: ReportError) -> ReceiveError {
         match error {
-            MakeError::Spent { first, width } => ReceiveError::Spent { first, width },
-            MakeError::NoMemory => ReceiveError::NoMemory,
+            ReportError::Program(rule) => ReceiveError::Program(rule),
+            ReportError::StillRunning => ReceiveError::StillRunning,
+            ReportError::NoCrash => ReceiveError::NoCrash,
+            ReportError::Spent { first, width } => ReceiveError::Spent { first, width },
+            ReportError::NoMemory => ReceiveError::NoMemory,
         }
     }
 }

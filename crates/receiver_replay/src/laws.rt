@@ -7,7 +7,8 @@ ghost use Rattle.elf32.specs.Loads.{loaded_program};
 ghost use Rattle.rv_event.specs.declared.event.End.TheVariants as ends;
 ghost use Rattle.rv_event.specs.declared.event.Trap.{Trap as Crash};
 ghost use Rattle.rv_machine.specs.Trace.{transcript_of};
-ghost use Rattle.report_laws.specs.Made.{spent_of, report_of};
+ghost use Rattle.report_laws.specs.Made.{report_of};
+ghost use Rattle.report_maker.specs.Made.{Made, made};
 ghost use Rattle.receiver_replay.specs.Received.{checked};
 ghost use Rattle.receiver_replay.specs.Right.{IsRight};
 
@@ -23,13 +24,12 @@ pub fn a_report_of_a_run_is_right()
     report_laws::revealed_bounds_the_class();
 }
 
-/// The report that is made of a run under a limit of steps and a budget of conflicts is accepted under
-/// any limit and any budget that are at least these.
+/// The report that is made under a limit of steps and a budget of conflicts is accepted under any
+/// limit and any budget that are at least these.
 pub fn a_report_that_is_made_is_accepted()
-    ensures { (p x : List ℕ) (seed limit budget more_steps more_conflicts : ℕ) (trap : Crash) →
-        All (λ byte. byte < 256) x → refusal p ≡ None →
-        (transcript_of (loaded_program p) x limit).end ≡ ends.Trap trap →
-        spent_of (loaded_program p) seed (transcript_of (loaded_program p) x limit) budget ≡ None →
-        limit ≤ more_steps → budget ≤ more_conflicts →
-        checked p (report_of p seed limit (transcript_of (loaded_program p) x limit) trap) more_steps more_conflicts ≡ Ok tt }
+    ensures { (p x : List ℕ) (seed steps conflicts more_steps more_conflicts : ℕ) (what : Made) →
+        All (λ byte. byte < 256) x →
+        made p seed steps conflicts (transcript_of (loaded_program p) x steps) ≡ Ok what →
+        steps ≤ more_steps → conflicts ≤ more_conflicts →
+        checked p what.report more_steps more_conflicts ≡ Ok tt }
 {}

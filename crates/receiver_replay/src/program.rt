@@ -12,7 +12,7 @@ use sha2::{Digest, Sha256};
 use std::alloc::Global;
 
 /// Whether a file is the report's program, by its length and its digest.
-fn is_its_program(program: &[u8], report: &Report) -> bool
+pub fn is_its_program(program: &[u8], report: &Report) -> bool
     ensures { result ≡ is_its_program program.now (content_of report.now) }
 {
     program.len() == report.length as usize && Sha256::digest(program) == report.digest

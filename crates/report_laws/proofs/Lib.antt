@@ -4,3 +4,4 @@ pub mod ClassLemmas
 pub mod ConditionLemmas
 pub mod LawLemmas
 pub mod GroupLemmas
+pub mod RangeLemmas

@@ -7,6 +7,8 @@
 ghost use Rattle.std.specs.Prelude.{◌≡◌, ◌*◌, ◌^◌, ◌<◌, ◌≤◌, ℕ, Bool, List, None, false, length, All, filter, find, option_map, sum_by};
 ghost use Rattle.elf32.specs.Loads.{Program, loaded_program};
 ghost use Rattle.elf32.specs.Rules.{refusal};
+ghost use Rattle.rv_event.specs.declared.event.End.TheVariants as ends;
+ghost use Rattle.rv_event.specs.declared.event.Trap.{Trap};
 ghost use Rattle.rv_event.specs.declared.transcript.Transcript.{Transcript};
 ghost use Rattle.term_model.specs.Tree.{Tree};
 ghost use Rattle.term_arena.specs.Trees.{trees_of};
@@ -23,8 +25,9 @@ ghost use Rattle.group_laws.specs.Groups.{has_wide_group};
 ghost use Rattle.set_laws.specs.ByClass.{sets_by_groups};
 ghost use Rattle.set_laws.specs.Spent.{is_wide, wide_groups, place_and_width};
 ghost use Rattle.set_laws.specs.Found.{group_conflicts, is_spent};
+ghost use Rattle.report_format.specs.Text.{IsReport};
 ghost use Rattle.report_laws.specs.Mask.{mask};
-ghost use Rattle.report_laws.specs.Made.{first_input, sets_of, number_of_groups, number_of_conflicts, spent_of};
+ghost use Rattle.report_laws.specs.Made.{first_input, sets_of, number_of_groups, number_of_conflicts, spent_of, report_of};
 ghost use Rattle.report_laws.specs.Divided.{AreDivided};
 ghost use Rattle.report_laws.specs.Filled.{IsOpen, IsFilled};
 
@@ -64,6 +67,21 @@ pub fn choices_have_the_trace()
 {
     trace_conditions::conditions_hold_of_the_class();
     trace_conditions::conditions_are_proper();
+}
+
+/// What the report of a run says is within the ranges of a report text, where program, input, limit of
+/// steps and seed are within theirs.
+pub fn reports_of_runs_are_in_range()
+    ensures { (p x : List ℕ) (seed limit : ℕ) (trap : Trap) →
+        All (λ byte. byte < 256) p → All (λ byte. byte < 256) x → refusal p ≡ None →
+        length p ≤ 16777216 → length x ≤ 65536 → limit ≤ 10000000 → seed < 2 ^ 64 →
+        (transcript_of (loaded_program p) x limit).end ≡ ends.Trap trap →
+        IsReport (report_of p seed limit (transcript_of (loaded_program p) x limit) trap) }
+{
+    files_are_programs();
+    choices_have_the_trace();
+    machine_laws::traps_are_of_words();
+    set_laws::sets_have_bytes_alone();
 }
 
 /// Where the trace of an input ends in a trap, the number of inputs with the trace times 2 to the

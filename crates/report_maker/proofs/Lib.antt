@@ -1,3 +1,4 @@
 mod PutLemmas
 mod FilledLemmas
 mod MadeLemmas
+pub mod RunLemmas

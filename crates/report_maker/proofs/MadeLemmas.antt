@@ -1,5 +1,5 @@
 -- The report that is made of the groups is the one that is stated.
-use Rattle.std.proofs.Common.{◌≡◌, ◌∙◌, ◌+◌, ◌<◌, ◌≤◌, ◌%◌, ℕ, zero, suc, Bool, true, false, List, [], ◌∷◌, length, map, Some, Result, Ok, Err, refl, sym, ap, subst, arith}
+use Rattle.std.proofs.Common.{◌≡◌, ◌∙◌, ◌+◌, ◌<◌, ◌%◌, ℕ, Bool, true, false, List, [], ◌∷◌, length, Some, Result, Ok, Err, refl, sym, ap, subst, arith}
 use Rattle.std.specs.Prelude.{None, filter, find, All, IfOk, option_map, sum_by, if◌then◌else◌}
 use Rattle.std.proofs.lemmas.List.Sums.{sum_by-cons}
 use Rattle.elf32.specs.declared.image.Image.{Image}
@@ -7,16 +7,13 @@ use Rattle.elf32.specs.Loads.{Program, loaded_program, program_of}
 use Rattle.elf32.proofs.Accepted.{same_program}
 use Rattle.rv_event.specs.declared.event.Trap.{Trap}
 use Rattle.rv_event.specs.declared.transcript.Transcript.{Transcript}
-use Rattle.rv_machine.specs.State.{State, start}
-use Rattle.rv_machine.specs.Trace.{trace_from, transcript_of}
 use Rattle.term_model.specs.Tree.{Tree}
 use Rattle.term_arena.specs.Trees.{trees_of}
-use Rattle.replay_law.specs.Crash.{IsProgram, IsTrapped, IsCrash, AreProper}
+use Rattle.replay_law.specs.Crash.{IsProgram, AreProper}
 use Rattle.trace_conditions.specs.Conditions.{conditions_of}
 use Rattle.input_laws.specs.Sets.{IsChoice}
 use Rattle.group_model.specs.declared.Group.{Group}
 use Rattle.group_model.specs.Conditions.{IsCondition}
-use Rattle.group_model.specs.Division.{AreGroups}
 use Rattle.set_laws.specs.Spent.{is_wide, place_and_width}
 use Rattle.set_laws.specs.Found.{group_conflicts, is_spent}
 use Rattle.report_format.specs.Text.{Content}
@@ -44,18 +41,6 @@ pub divided_along : (image : Image) (p : List ℕ) (t : Transcript) (trees : Lis
     → AreDivided trees (conditions_of (program_of image) t) t.n groups → AreDivided trees (conditions_of (loaded_program p) t) t.n given
 divided_along image p t trees groups given entry segments is divided =
     subst (AreDivided trees (conditions_of (loaded_program p) t) t.n) (sym is) (subst (λ q. AreDivided trees (conditions_of q t) t.n groups) (same_program image p entry segments) divided)
-
--- a run that a trap ended has an event
-some_events : (limit : ℕ) (x : List ℕ) (s : State) → IsTrapped (trace_from limit x s).end → 0 < length (trace_from limit x s).events
-unfolding trace_from
-some_events zero x s trapped = absurd trapped
-some_events (suc limit) x s trapped = omega arith
-
-pub crash_has_events : (program : Program) (limit : ℕ) (x : List ℕ) (t : Transcript) → IsCrash program limit x t → 0 < length t.events
-unfolding transcript_of
-crash_has_events program limit x t crash =
-    subst (λ (run : Transcript). 0 < length run.events) (sym crash.trace)
-    (some_events limit x (start program.entry program.segments) (subst (λ (run : Transcript). IsTrapped run.end) crash.trace crash.trapped))
 
 -- the conflicts of all groups are those of the wide ones
 pub wide_sum : (trees : List Tree) (order : List ℕ) (groups : List Group)

@@ -8,7 +8,7 @@ ghost use Rattle.replay_law.specs.Crash.{IsProgram, IsTrapped, IsCrash};
 ghost use Rattle.trace_conditions.specs.Conditions.{conditions_of};
 ghost use Rattle.input_laws.specs.Sets.{IsChoice};
 ghost use Rattle.byte_sets.specs.ByteSet.{has};
-ghost use Rattle.report_format.specs.Text.{content_of};
+ghost use Rattle.report_format.specs.Text.{IsReport, content_of};
 ghost use Rattle.report_laws.specs.Divided.{AreDivided};
 ghost use Rattle.report_laws.specs.Made.{number_of_groups, number_of_conflicts, spent_of, report_with, report_of};
 ghost use Rattle.report_maker.specs.declared.error.MakeError.TheVariants.{Spent};
@@ -20,6 +20,7 @@ use byte_groups::{GroupList, groups};
 use byte_sets::ByteSet;
 use elf32::Image;
 use no_memory::NoMemory;
+use report_format::laws::reports_are_in_range;
 use report_format::{Bytes, Report, Sets};
 use report_laws::{choices_have_the_trace, groups_make_the_report};
 use rv_event::{End, Transcript, Trap};
@@ -123,6 +124,7 @@ pub fn make_report(
     ensures report { IfOk result (λ made. (limit : ℕ) (x : List ℕ) (trap : Crash) →
         IsCrash (loaded_program program.now) limit x transcript.now → transcript.now.end ≡ ends.Trap trap →
         content_of made.report ≡ report_of program.now seed limit transcript.now trap) }
+    ensures range { IfOk result (λ made. IsReport (content_of made.report)) }
     ensures groups { IfOk result (λ made. made.groups ≡ number_of_groups (loaded_program program.now) transcript.now) }
     ensures conflicts { IfOk result (λ made. made.conflicts ≡ number_of_conflicts (loaded_program program.now) seed transcript.now) }
     ensures unspent { IfOk result (λ _. spent_of (loaded_program program.now) seed transcript.now budget ≡ None) }
@@ -137,6 +139,7 @@ pub fn make_report(
     let mask = order_mask(alloc, seed, transcript.n)?;
     let filled = fill_all(alloc, &arena, groups, mask.as_slice(), budget)?;
     let report = report_with(program, transcript, seed, filled.input, filled.sets);
+    reports_are_in_range(&report);
     Ok(Made {
         report,
         groups: groups.len() as u32,

@@ -1,3 +1,4 @@
 pub mod SetLines
 pub mod Lines
 pub mod Failing
+pub mod Lengths

@@ -13,7 +13,7 @@ ghost use Rattle.term_model.specs.Words.{HasWords};
 ghost use Rattle.term_model.specs.Conditions.{Hold, holds};
 ghost use Rattle.term_arena.specs.Trees.{tree_of, trees_of};
 ghost use Rattle.input_laws.specs.Inputs.{IsInput, class_size};
-ghost use Rattle.input_laws.specs.Sets.{IsChoice, size, set_at, freed, revealed};
+ghost use Rattle.input_laws.specs.Sets.{IsByteSet, IsChoice, size, set_at, freed, revealed};
 ghost use Rattle.input_laws.specs.Narrow.{freed_beside};
 ghost use Rattle.group_model.specs.declared.Group.{Group};
 ghost use Rattle.group_model.specs.Group.{IsAscending};
@@ -84,6 +84,11 @@ pub fn large_budgets_are_never_spent()
         IsInput n y → Hold conditions y →
         All (λ places. 2 ^ (8 * length places) ≤ budget) (wide_groups conditions n) →
         first_spent conditions mask n budget ≡ None }
+{}
+
+/// No set has a number that is no byte.
+pub fn sets_have_bytes_alone()
+    ensures { (conditions : List Tree) (y : List ℕ) → All IsByteSet (sets_from conditions y) }
 {}
 
 /// The sets of an input that meets the conditions have its own bytes, so none is empty.

@@ -1,5 +1,5 @@
 -- What the words after the program's name ask for, as `clap` reads them.
-use Rattle.std.specs.Prelude.{◌≡◌, ◌≤◌, ℕ, List, [], ◌∷◌, codes, true, Option, Some, None, option_map, nat_le, ◌&&◌, if◌then◌else◌}
+use Rattle.std.specs.Prelude.{◌<◌, ◌≤◌, ◌^◌, ℕ, List, [], ◌∷◌, codes, true, Option, Some, None, option_map, nat_le, ◌&&◌, if◌then◌else◌}
 use Rattle.std.specs.Str.{bytes_eq}
 use Rattle.std.specs.Str.Parse.{digits_value}
 use Rattle.std.specs.Fmt.{decimal}
@@ -96,8 +96,9 @@ options_with _ _ _ = None
 abbrev pub options_of : Texts → Option Options
 options_of texts = options_with (number_or 0 0 18446744073709551615 texts.seed) (number_or 1000000 1 10000000 texts.steps) (number_or 10000 1 1000000 texts.conflicts)
 
--- 1 to 10,000,000 steps, and 1 to 1,000,000 conflicts
+-- a seed of 64 bits, 1 to 10,000,000 steps, and 1 to 1,000,000 conflicts
 pub record AreWithin (options : Options) : Type 0 where
+  pub seed : options.seed < 2 ^ 64
   pub some_steps : 1 ≤ options.steps
   pub steps : options.steps ≤ 10000000
   pub some_conflicts : 1 ≤ options.conflicts

@@ -1,6 +1,6 @@
 use Rattle.std.proofs.Common.{◌∙◌, inl}
 use Rattle.std.proofs.lemmas.Result.{err_from_is_err_and}
-use Rattle.crash_tool.specs.Made.{made_value}
+use Rattle.report_maker.specs.Made.{made_value}
 use Rattle.crash_tool.proofs.DemoLemmas.{demo-summed, demo-refused}
 use Rattle.crash_tool.proofs.demo.demo.Goals as goal
 

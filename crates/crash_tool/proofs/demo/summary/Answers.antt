@@ -1,5 +1,5 @@
 use Rattle.std.proofs.lemmas.Result.{IfOk-weaker}
-use Rattle.crash_tool.specs.Made.{made_value}
+use Rattle.report_maker.specs.Made.{made_value}
 use Rattle.crash_tool.proofs.DemoLemmas.{summary-parts}
 use Rattle.crash_tool.proofs.demo.summary.Goals as goal
 

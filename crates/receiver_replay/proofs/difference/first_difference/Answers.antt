@@ -5,9 +5,10 @@ use Rattle.receiver_replay.proofs.difference.first_difference.Goals as goal
 
 pub differing_line-requires : goal.differing_line-requires
 differing_line-requires c = record {
-  few = few_lines (content_of c.args.report.now) c.as_slice.result.now c.reports_are_in_range.ensures (c.as_slice.ensures ∙ c.in_ok-text.ensures);
+  few = few_lines c.requires.text.0 c.args.text.now c.requires.text.1.report c.requires.text.1.written;
 }
 
 pub returns : goal.returns
-returns c = by_lines (content_of c.args.report.now) (content_of c.args.other.now) c.as_slice.result.now c.as_slice-2.result.now c.differing_line.result c.reports_are_in_range.ensures c.reports_are_in_range-2.ensures
-    (c.as_slice.ensures ∙ c.in_ok-text.ensures) (c.as_slice-2.ensures ∙ c.in_ok-others.ensures) c.differing_line.ensures
+returns c = λ content is.
+    by_lines content (content_of c.args.other.now) c.args.text.now c.as_slice.result.now c.differing_line.result is.report c.reports_are_in_range.ensures
+    is.written (c.as_slice.ensures ∙ c.in_ok-others.ensures) c.differing_line.ensures

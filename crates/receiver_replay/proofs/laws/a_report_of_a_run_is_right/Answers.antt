@@ -1,6 +1,7 @@
 use Rattle.elf32.specs.Loads.{loaded_program}
 use Rattle.rv_machine.specs.Trace.{transcript_of}
-use Rattle.receiver_replay.proofs.RightLemmas.{crash, right_of_run}
+use Rattle.report_laws.proofs.RangeLemmas.{crash}
+use Rattle.receiver_replay.proofs.RightLemmas.{right_of_run}
 use Rattle.receiver_replay.proofs.laws.a_report_of_a_run_is_right.Goals as goal
 
 pub returns : goal.returns

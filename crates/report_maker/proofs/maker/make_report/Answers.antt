@@ -7,8 +7,9 @@ use Rattle.byte_sets.specs.ByteSet.{has}
 use Rattle.elf32.proofs.Accepted.{same_program}
 use Rattle.replay_law.specs.Crash.{IsProgram}
 use Rattle.report_laws.specs.Filled.{IsOpen}
+use Rattle.report_laws.proofs.RangeLemmas.{crash_has_events}
 use Rattle.report_maker.proofs.FilledLemmas.{are_bytes}
-use Rattle.report_maker.proofs.MadeLemmas.{image_gives_program, divided_along, crash_has_events, report_is, choice_along, none_is_spent, first_is_named, counted_is, filled_by_mask, named_by_error}
+use Rattle.report_maker.proofs.MadeLemmas.{image_gives_program, divided_along, report_is, choice_along, none_is_spent, first_is_named, counted_is, filled_by_mask, named_by_error}
 use Rattle.report_maker.proofs.maker.make_report.Goals as goal
 
 pub divide-requires-clause-program : goal.divide-requires-clause-program
