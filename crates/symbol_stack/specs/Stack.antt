@@ -40,6 +40,18 @@ stack_after stack e =
 abbrev pub stack_of : List Event → List ℕ
 stack_of events = fold stack_after [] (take (length events - 1) events)
 
+-- the last event
+abbrev pub last_of : List Event → Option Event
+last_of events = slice_get events (length events - 1)
+
+-- the program counter of an event, where there is one
+abbrev pub counter_of : Option Event → ℕ
+counter_of None = 0
+counter_of (Some e) = e.pc
+
+abbrev pub last_counter : List Event → ℕ
+last_counter events = counter_of (last_of events)
+
 -- ---- one event behind
 
 -- the calls after one more event, where there is one
@@ -53,4 +65,4 @@ reached_after r e = record { calls = calls_after r.calls r.last; last = Some e }
 
 -- the calls after all events but the last, and the last
 abbrev pub reached_by : List Event → Reached
-reached_by events = record { calls = stack_of events; last = slice_get events (length events - 1) }
+reached_by events = record { calls = stack_of events; last = last_of events }

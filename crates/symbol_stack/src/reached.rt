@@ -1,7 +1,7 @@
 //! Through which calls a run came to an event.
 
 ghost use Rattle.std.specs.Prelude.{◌≡◌, [], None, IfOk};
-ghost use Rattle.symbol_stack.specs.Stack.{reached_after};
+ghost use Rattle.symbol_stack.specs.Stack.{counter_of, reached_after};
 
 use crate::call_stack::CallStack;
 use no_memory::NoMemory;
@@ -31,6 +31,16 @@ impl Reached {
         Reached {
             calls: CallStack::new(alloc),
             last: None,
+        }
+    }
+
+    /// The program counter of the last event, or 0 where there is none.
+    pub fn counter(&self) -> u32
+        ensures { result ≡ counter_of self.now.last }
+    {
+        match self.last {
+            Some(last) => last.pc,
+            None => 0,
         }
     }
 
