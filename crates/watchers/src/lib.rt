@@ -9,6 +9,7 @@
 mod covered;
 mod last_sixteen;
 pub mod laws;
+mod pair;
 mod watch;
 
 pub use covered::{Covered, CoveredStep, covered_step};
