@@ -12,5 +12,6 @@ mod outcome;
 mod receiver;
 mod run_text;
 pub mod say;
+mod stack;
 pub mod tool;
 mod watched_run;
