@@ -7,7 +7,7 @@ use Rattle.crash_tool.specs.declared.answer.Refusal.{Refusal}
 use Rattle.crash_tool.specs.declared.answer.Role.TheVariants.{Program}
 use Rattle.crash_tool.specs.Refusals.{Answer}
 use Rattle.tool_words.specs.declared.words.Action.{Action}
-use Rattle.tool_words.specs.declared.words.Action.TheVariants.{Make, Run, Replay, Check}
+use Rattle.tool_words.specs.declared.words.Action.TheVariants.{Make, Run, Replay, Check, Stack}
 use Rattle.tool_words.specs.declared.words.Options.{Options}
 use Rattle.tool_words.specs.Words.{Task, Asked, OnFiles, OnDemo}
 use Rattle.crash_tool.specs.Made.{made, transcript_under}
@@ -18,6 +18,7 @@ use Rattle.rv_assemble.specs.declared.demo.DemoKind.{DemoKind}
 use Rattle.rv_assemble.specs.Parts.{IsFile}
 use Rattle.rv_assemble.specs.Demo.{demo_code, demo_regions, demo_input}
 use Rattle.crash_tool.specs.Received.{IsReading, IsByReading, replay_answer, check_answer}
+use Rattle.crash_tool.specs.Stack.{stack_answer}
 use Rattle.crash_tool.specs.Answers.{read_of, role_of, IsAnswerOf, IsOfSecond, IsOfProgram, IsAnswerTo}
 
 module _ (one_report : (a b : Content) → IsReport a → IsReport b → text a ≡ text b → a ≡ b) (one_line : (bytes : List ℕ) (m n : ℕ) → FailsAt m bytes → FailsAt n bytes → m ≡ n)
@@ -36,6 +37,7 @@ module _ (one_report : (a b : Content) → IsReport a → IsReport b → text a 
   of_action Run p o x a b is_a is_b = is_a ∙ sym is_b
   of_action Replay p o x a b is_a is_b = by_one_reading (replay_answer p) x a b is_a is_b
   of_action Check p o x a b is_a is_b = by_one_reading (check_answer p o) x a b is_a is_b
+  of_action Stack p o x a b is_a is_b = by_one_reading (stack_answer p) x a b is_a is_b
 
   of_second : (task : Task) (p : List ℕ) (read : Result (List ℕ) Refusal) (a b : Answer) → IsOfSecond task p read a → IsOfSecond task p read b → a ≡ b
   of_second task p (Err refused) a b is_a is_b = is_a ∙ sym is_b

@@ -10,13 +10,14 @@ use Rattle.crash_tool.specs.declared.answer.Refusal.{Refusal}
 use Rattle.crash_tool.specs.declared.answer.Refusal.TheVariants.{Usage, CannotRead, TooLong, NotAProgram}
 use Rattle.crash_tool.specs.Refusals.{Answer}
 use Rattle.tool_words.specs.declared.words.Action.{Action}
-use Rattle.tool_words.specs.declared.words.Action.TheVariants.{Make, Run, Replay, Check}
+use Rattle.tool_words.specs.declared.words.Action.TheVariants.{Make, Run, Replay, Check, Stack}
 use Rattle.tool_words.specs.declared.words.Options.{Options}
 use Rattle.tool_words.specs.Words.{Task, Asked, OnFiles, OnDemo}
 use Rattle.crash_tool.specs.Made.{transcript_under}
 use Rattle.crash_tool.specs.Outcome.{outcome}
 use Rattle.crash_tool.specs.RunText.{run_text}
 use Rattle.crash_tool.specs.Received.{IsByReading, replay_answer, check_answer}
+use Rattle.crash_tool.specs.Stack.{stack_answer}
 use Rattle.crash_tool.specs.Demo.{IsDemoAnswer}
 
 -- ---- files
@@ -38,6 +39,7 @@ role_of Make = Input
 role_of Run = Input
 role_of Replay = Report
 role_of Check = Report
+role_of Stack = Report
 
 -- ---- actions
 
@@ -52,6 +54,7 @@ IsAnswerOf Make p o x answer = answer ≡ outcome p o (length x) (transcript_und
 IsAnswerOf Run p o x answer = answer ≡ run_answer (refusal p) (transcript_under p o x)
 IsAnswerOf Replay p o x answer = IsByReading (replay_answer p) x answer
 IsAnswerOf Check p o x answer = IsByReading (check_answer p o) x answer
+IsAnswerOf Stack p o x answer = IsByReading (stack_answer p) x answer
 
 abbrev pub IsOfSecond : Task → List ℕ → Result (List ℕ) Refusal → Answer → Type 0
 IsOfSecond task p (Err refused) answer = answer ≡ Err refused

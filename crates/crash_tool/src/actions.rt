@@ -9,6 +9,7 @@ ghost use Rattle.crash_tool.specs.Received.{IsAccepted};
 use crate::answer::{Answer, Role};
 use crate::outcome::outcome;
 use crate::receiver::{check, replay, run};
+use crate::stack::stack;
 use std::alloc::Global;
 use tool_words::{Action, Options};
 
@@ -29,7 +30,7 @@ pub fn role_of(action: Action) -> Role
 {
     match action {
         Action::Make | Action::Run => Role::Input,
-        Action::Replay | Action::Check => Role::Report,
+        Action::Replay | Action::Check | Action::Stack => Role::Report,
     }
 }
 
@@ -53,5 +54,6 @@ pub fn answer_of(
         Action::Run => run(alloc, program, options, second),
         Action::Replay => replay(alloc, program, second),
         Action::Check => check(alloc, program, options, second),
+        Action::Stack => stack(alloc, program, second),
     }
 }

@@ -12,4 +12,5 @@ mod outcome;
 mod receiver;
 mod run_text;
 pub mod say;
+mod stack;
 pub mod tool;

@@ -7,7 +7,7 @@ use Rattle.clap.specs.Words.{App, Rule, Row, Kinds, first_of, matches_of, fault_
 use Rattle.clap.specs.Simple.{on_top}
 use Rattle.tool_words.specs.declared.command.Raw.{Raw}
 use Rattle.tool_words.specs.declared.words.Action.{Action}
-use Rattle.tool_words.specs.declared.words.Action.TheVariants.{Make, Run, Replay, Check}
+use Rattle.tool_words.specs.declared.words.Action.TheVariants.{Make, Run, Replay, Check, Stack}
 use Rattle.tool_words.specs.declared.words.Options.{Options}
 use Rattle.tool_words.specs.declared.words.Task.{Task as RawTask}
 use Rattle.tool_words.specs.declared.words.Asked.{Asked as RawAsked}
@@ -112,6 +112,7 @@ action_of text =
     else if bytes_eq text (codes "run") then Some Run
     else if bytes_eq text (codes "replay") then Some Replay
     else if bytes_eq text (codes "check") then Some Check
+    else if bytes_eq text (codes "stack") then Some Stack
     else None
 
 -- what is to be done: an action, the names of the program's file and of a second one, and the options

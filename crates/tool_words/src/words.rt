@@ -21,6 +21,8 @@ pub enum Action {
     Replay,
     /// Whether a report is the one that the program gives on the report's input.
     Check,
+    /// Through which calls the program came to its crash on a report's input.
+    Stack,
 }
 
 /// What a report is made under.
@@ -79,6 +81,7 @@ fn action_of(text: &str) -> Option<Action>
         "run" => Some(Action::Run),
         "replay" => Some(Action::Replay),
         "check" => Some(Action::Check),
+        "stack" => Some(Action::Stack),
         _ => None,
     }
 }

@@ -1,0 +1,4 @@
+pub mod TextLemmas
+pub mod NameLemmas
+pub mod RowLemmas
+pub mod StackLemmas

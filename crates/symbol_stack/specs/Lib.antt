@@ -1,0 +1,4 @@
+pub mod Stack
+pub mod Names
+pub mod Rows
+pub mod Text
