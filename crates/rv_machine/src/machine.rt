@@ -7,7 +7,6 @@ ghost use Rattle.std.specs.Prelude.{◌≡◌, ℕ, ◌+◌, ◌-◌, ◌<◌, �
 ghost use Rattle.memory_map.specs.Cells.{first_without, readable_byte};
 ghost use Rattle.memory_map.specs.Cells as cells;
 ghost use Rattle.memory_map.specs.Heaps.{may_break};
-ghost use Rattle.memory_map.specs.declared.heap.Heap.{Heap};
 ghost use Rattle.rv_word.specs.Word.{bits};
 ghost use Rattle.rv_decode.specs.Rows.{IsWellFormed};
 ghost use Rattle.call_replies.specs.Calls.{reply_to};
