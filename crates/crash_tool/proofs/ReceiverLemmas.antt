@@ -1,5 +1,5 @@
 -- From a report that was read, and what became of it, to the answer.
-use Rattle.std.proofs.Common.{◌≡◌, ◌≢◌, ◌∙◌, ℕ, Bool, true, false, nat_lt, List, length, Option, Some, None, Result, Ok, Err, refl, sym, ap, subst, inl, inr}
+use Rattle.std.proofs.Common.{◌≡◌, ◌≢◌, ◌∙◌, ℕ, Bool, true, false, nat_lt, List, length, Option, Some, None, option_map, Result, Ok, Err, refl, sym, ap, subst, inl, inr}
 use Rattle.std.specs.Prelude.{if◌then◌else◌}
 use Rattle.elf32.specs.declared.error.ElfError.{ElfError}
 use Rattle.elf32.specs.declared.error.ElfError.TheVariants as rules
@@ -17,7 +17,7 @@ use Rattle.report_format.specs.Text.{Content}
 use Rattle.report_format.specs.Reading.{IsTextOf, IsRefusal}
 use Rattle.receiver_replay.specs.declared.error.ReceiveError.{ReceiveError}
 use Rattle.receiver_replay.specs.declared.error.ReceiveError.TheVariants.{WrongProgram, Program, StillRunning, NoCrash, Spent, Differs, NoMemory}
-use Rattle.receiver_replay.specs.Received.{program_refusal, unless_refused, by_steps, by_trap, its_run, replayed, NamesRule, IsBut as IsThisBut}
+use Rattle.receiver_replay.specs.Received.{is_its_program, program_refusal, unless_refused, by_steps, by_trap, its_run, replayed, NamesRule, IsBut as IsThisBut}
 use Rattle.tool_words.specs.declared.words.Options.{Options}
 use Rattle.crash_tool.specs.declared.answer.Refusal.{Refusal}
 use Rattle.crash_tool.specs.declared.answer.Refusal.TheVariants.{NotAReport, NoMemory as WantOfMemory}
@@ -71,6 +71,18 @@ module _ {T : Type 0} (by : Result T ReceiveError → Answer) (answer_of : Resul
       inr (ap Err (is ∙ ap of_receive wanted))
 
 -- ---- runs
+
+-- a file that was run is a program
+pub is-unbroken : (p : List ℕ) (report : Content) (run : Run) → IsThisBut (replayed p report) (Ok run) → refusal p ≡ None
+unfolding replayed
+is-unbroken p report run (inl ran) = of_refusal (is_its_program p report) (refusal p) refl (sym ran)
+  where
+    of_refusal : (b : Bool) (rule : Option ElfError) → rule ≡ refusal p
+        → unless_refused (if b then option_map Program rule else Some WrongProgram) (by_trap report (its_run p report report.steps)) ≡ Ok run → refusal p ≡ None
+    of_refusal true None is ran = sym is
+    of_refusal true (Some rule) is ran = cc
+    of_refusal false rule is ran = cc
+is-unbroken p report run (inr wanted) = cc
 
 -- a run that is the report's is the program's run on its input
 pub is-its-run : (p : List ℕ) (report : Content) (run : Run) → IsThisBut (replayed p report) (Ok run)
