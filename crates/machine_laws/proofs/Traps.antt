@@ -13,8 +13,11 @@ use Rattle.rv_event.specs.declared.event.End.{End}
 use Rattle.rv_event.specs.declared.event.End.TheVariants as ends
 use Rattle.rv_event.specs.declared.event.Trap.{Trap}
 use Rattle.rv_event.specs.declared.event.TrapKind.TheVariants as traps
-use Rattle.rv_machine.specs.State.{State, Next, Goes, Ends, reg, write_reg, at, following, bits, trap, start}
-use Rattle.rv_machine.specs.Calls.{Reply, Answers, Moves, Breaks, Exits, bad_descriptor, no_such_call, if_none, read_reply, write_reply, break_reply, reply_to}
+use Rattle.rv_machine.specs.State.{State, Next, Goes, Ends, reg, write_reg, at, following, trap, start}
+use Rattle.rv_word.specs.Word.{bits}
+use Rattle.call_replies.specs.declared.Reply.{Reply}
+use Rattle.call_replies.specs.declared.Reply.TheVariants.{Answers, Moves, Breaks, Exits}
+use Rattle.call_replies.specs.Calls.{bad_descriptor, no_such_call, if_none, read_reply, write_reply, break_reply, reply_to}
 use Rattle.rv_machine.specs.Effects.{jump, taken, size_of, address_of, even, after_load, after_store, after_call, effect, executed, after_fetch, step}
 use Rattle.rv_machine.specs.Trace.{onward, trace_from, transcript_of}
 use Rattle.machine_laws.specs.Kept.{IsState, Keeps}
