@@ -17,7 +17,7 @@ use Rattle.term_model.proofs.ByteLemmas.{bytes_everywhere, bytes_within}
 use Rattle.replay_law.specs.Crash.{IsProgram, IsTrapped, IsCrash}
 use Rattle.input_laws.specs.Sets.{IsByteSet, IsChoice}
 use Rattle.report_format.specs.Text.{IsReport}
-use Rattle.report_format.proofs.FormLemmas.{word-bytes}
+use Rattle.text_lines.proofs.DigitLemmas.{word-bytes}
 use Rattle.report_laws.specs.Made.{first_input, sets_of, report_of}
 use Rattle.report_laws.proofs.ClassLemmas.{length_told, input_comes_first}
 
