@@ -3,7 +3,7 @@ use Rattle.gate_net.specs.declared.literals.Lit.{Lit}
 use Rattle.search_model.specs.Literals.{named}
 use Rattle.search_model.specs.Model.{Settles}
 use Rattle.search_tests.proofs.OrderLemmas.{HasNames, settles_all}
-use Rattle.search_tests.proofs.tests.searches.search.Goals as goal
+use Rattle.search_tests.proofs.tests.searches.searched.Goals as goal
 
 pub first_model-requires-clause-settled : goal.first_model-requires-clause-settled
 first_model-requires-clause-settled c =
