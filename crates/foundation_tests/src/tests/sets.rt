@@ -1,6 +1,6 @@
 //! Sets of bytes.
 
-use byte_sets::{ByteSet, revealed};
+use byte_sets::{ByteSet, Version, revealed};
 
 /// Whether the set has so many values, and of five these.
 fn has(set: &ByteSet, size: u32, values: [bool; 5]) -> bool {
@@ -49,4 +49,18 @@ fn sets_and_what_they_reveal(rt: HostRuntime) {
         holds = holds && reveals(last, bits);
     }
     assert!(rt; holds);
+}
+
+/// A version and its copy are one, and the two versions are not.
+#[test]
+fn versions_are_two(rt: HostRuntime) {
+    for (first, second, same) in [
+        (Version::One, Version::One, true),
+        (Version::One, Version::Two, false),
+        (Version::Two, Version::One, false),
+        (Version::Two, Version::Two, true),
+    ] {
+        let copy = first;
+        assert!(rt; (copy == second) == same && copy == first);
+    }
 }

@@ -4,8 +4,8 @@ ghost use Rattle.std.specs.Prelude.{◌≢◌, ◌<◌, length, IfOk};
 ghost use Rattle.gate_model.specs.Makers.{no};
 ghost use Rattle.gate_net.specs.Trees.{signed_of};
 
-use clause_form::{clauses, gate_clauses};
-use gate_net::{Gate, Lit, Net};
+use clause_form::{clauses, gate_clauses, refutation};
+use gate_net::{Clause, Gate, Lit, Net};
 use std::alloc::{AllocError, Global};
 use std::test::Fail;
 
@@ -139,5 +139,41 @@ fn a_deep_tree_has_four_clauses_a_gate(rt: HostRuntime) -> Result<(), Fail> {
     let deep = deep_tree(&mut net)?;
     assert!(rt; net.len() == 100_003);
     assert!(rt; has_sizes(rt.alloc(), &net, deep, (400_001, 400_000))?);
+    Ok(())
+}
+
+/// Whether these are the clauses of one And, and then these three.
+fn ends_so(clauses: &[Clause], ends: [&[Lit]; 3]) -> bool {
+    if clauses.len() != 6 {
+        return false;
+    }
+    for i in 0..3 {
+        if clauses[3 + i].as_slice() != ends[i] {
+            return false;
+        }
+    }
+    true
+}
+
+/// Whether the refutation of two fixed literals' And has the clauses of that gate, each of the two, and that it is false.
+fn is_refuted(alloc: Global, net: &mut Net, a: Lit, b: Lit) -> Result<bool, AllocError>
+    requires first { a.name < length net.old }
+    requires second { b.name < length net.old }
+{
+    let both = net.and(a, b)?;
+    if both == Lit::NO || both == Lit::YES {
+        return Ok(false);
+    }
+    let _net = net.len();
+    let formula = refutation(alloc, net, &[both], &[a, b])?;
+    Ok(ends_so(formula.clauses.as_slice(), [&[a], &[b], &[both.not()]]))
+}
+
+#[test]
+fn a_refutation_of_two_fixed_bits(rt: HostRuntime) -> Result<(), Fail> {
+    let mut net = Net::new(rt.alloc())?;
+    let first = net.input_bit(0, 0)?;
+    let second = net.input_bit(1, 0)?;
+    assert!(rt; is_refuted(rt.alloc(), &mut net, first, second.not())?);
     Ok(())
 }

@@ -66,6 +66,23 @@ fn order(alloc: Global, signs: &[bool]) -> Result<Vec<Lit>, AllocError>
     Ok(order)
 }
 
+/// A closer of rows, and what the search finds there with each name in the order.
+fn searched(
+    alloc: Global,
+    rows: &[[i64; 3]],
+    signs: &[bool],
+    budget: u32,
+) -> Result<(Closer, Result<Found, SolveError>), AllocError>
+    requires names { 0 < length signs.now }
+    requires budget { 0 < budget }
+{
+    let formula = formula(alloc, signs.len() as u64, rows)?;
+    let order = order(alloc, signs)?;
+    let mut closer = Closer::load(alloc, &formula)?;
+    let found = first_model(alloc, &mut closer, order.as_slice(), budget);
+    Ok((closer, found))
+}
+
 /// What the search finds for rows, with each name in the order.
 fn search(
     alloc: Global,
@@ -76,10 +93,7 @@ fn search(
     requires names { 0 < length signs.now }
     requires budget { 0 < budget }
 {
-    let formula = formula(alloc, signs.len() as u64, rows)?;
-    let order = order(alloc, signs)?;
-    let mut closer = Closer::load(alloc, &formula)?;
-    first_model(alloc, &mut closer, order.as_slice(), budget)
+    searched(alloc, rows, signs, budget)?.1
 }
 
 /// How an assignment of eight names is counted: the first name is the highest digit, which is 0 where it has its sign.
@@ -260,6 +274,65 @@ fn a_closer_and_its_learned_clause(rt: HostRuntime) -> Result<(), Fail> {
 fn unsatisfiable(rt: HostRuntime) -> Result<(), Fail> {
     let found = search(rt.alloc(), &[[1, 1, 1], [-1, -1, -1]], &[true], 1)?;
     assert_eq!(rt; answer(&found), None);
+    Ok(())
+}
+
+/// Each clause over three names.
+const ALL: [[i64; 3]; 8] = [
+    [1, 2, 3],
+    [1, 2, -3],
+    [1, -2, 3],
+    [1, -2, -3],
+    [-1, 2, 3],
+    [-1, 2, -3],
+    [-1, -2, 3],
+    [-1, -2, -3],
+];
+
+/// Each clause over the second and the third name.
+const LAST_TWO: [[i64; 3]; 4] = [[2, 3, 3], [2, -3, -3], [-2, 3, 3], [-2, -3, -3]];
+
+/// The signs of three names, clauses that no values meet, and what is learned. With the last two names alone the first
+/// decision is dropped from the first conflict, and no decision is left of the second.
+const LEARNED: [([bool; 3], &[[i64; 3]], &[&[i64]]); 4] = [
+    ([true, true, true], &ALL, &[&[-1, -2], &[-1], &[-2]]),
+    ([false, true, true], &ALL, &[&[1, -2], &[1], &[-2]]),
+    ([true, true, true], &LAST_TWO, &[&[-2], &[]]),
+    ([true, true, true], &[[1, 1, 1], [-1, -1, -1]], &[]),
+];
+
+/// Whether these are a clause's literals, in their order.
+fn is_clause(literals: &[Lit], numbers: &[i64]) -> bool {
+    if literals.len() != numbers.len() {
+        return false;
+    }
+    for i in 0..numbers.len() {
+        if literals[i] != literal(3, numbers[i]) {
+            return false;
+        }
+    }
+    true
+}
+
+/// Whether just these clauses were learned, in this order.
+fn has_learned(closer: &Closer, clauses: &[&[i64]]) -> bool {
+    if closer.learned_len() != clauses.len() as u64 {
+        return false;
+    }
+    for i in 0..clauses.len() {
+        if !is_clause(closer.learned(i as u64), clauses[i]) {
+            return false;
+        }
+    }
+    true
+}
+
+#[test]
+fn learned_clauses_in_their_order(rt: HostRuntime) -> Result<(), Fail> {
+    for (signs, rows, learned) in LEARNED {
+        let (closer, found) = searched(rt.alloc(), rows, &signs, 9)?;
+        assert!(rt; answer(&found?) == None && has_learned(&closer, learned));
+    }
     Ok(())
 }
 

@@ -3,10 +3,10 @@ use Rattle.gate_net.specs.declared.literals.Lit.{Lit}
 use Rattle.search_model.specs.Literals.{named}
 use Rattle.search_model.specs.Model.{Settles}
 use Rattle.search_tests.proofs.OrderLemmas.{HasNames, settles_all}
-use Rattle.search_tests.proofs.tests.searches.search.Goals as goal
+use Rattle.search_tests.proofs.tests.searches.searched.Goals as goal
 
-pub first_model-requires-clause-settled : goal.first_model-requires-clause-settled
-first_model-requires-clause-settled c =
+pub first_model-found-requires-clause-settled : goal.first_model-found-requires-clause-settled
+first_model-found-requires-clause-settled c =
     let whole : HasNames c.in_ok-order.order.items c.in_ok-formula.formula.names = subst (HasNames c.in_ok-order.order.items) (sym c.in_ok-formula.ensures) c.in_ok-order.ensures.whole in
     let P : List (List Lit) → Type 0 = λ f. Settles named f c.as_slice.result.now in
     let Q : List Lit → Type 0 = λ o. Settles named c.in_ok-formula.formula.clauses o in
